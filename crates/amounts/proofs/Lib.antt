@@ -1,0 +1,4 @@
+-- The laws that the crates above cite.
+pub mod Tests
+pub mod Values
+pub mod Ordering

@@ -1,0 +1,7 @@
+-- What the contracts of the amounts cite.
+pub mod Limits
+pub mod Worth
+pub mod Order
+pub mod Settings
+pub mod Requests
+pub mod Made

@@ -1,0 +1,62 @@
+-- The limits of document 01, "Numbers": each has this one name. Assumes nothing.
+use Prim.Native.Nat.{ℕ}
+use mathlib.Core.Bool.{Bool, true, false}
+use lib.Dec.{leb, ltb}
+
+-- a or b, by a test
+abbrev pub pick : {A : Type 0} → Bool → A → A → A
+pick true a b = a
+pick false a b = b
+
+abbrev pub unitMost : ℕ
+unitMost = 4294967295
+
+abbrev pub policyMost : ℕ
+policyMost = 2
+
+abbrev pub capacityMost : ℕ
+capacityMost = 1099511627775
+
+abbrev pub placesMost : ℕ
+placesMost = 4096
+
+abbrev pub catalogueMost : ℕ
+catalogueMost = 32768
+
+abbrev pub sizeMost : ℕ
+sizeMost = 16777215
+
+abbrev pub costMost : ℕ
+costMost = 65535
+
+abbrev pub requestsMost : ℕ
+requestsMost = 1048576
+
+-- what one more than fits a 64-bit word is
+abbrev pub word : ℕ
+word = 18446744073709551616
+
+-- n is at least 1 and at most m
+unfoldable pub oneTo : ℕ → ℕ → Bool
+oneTo m n = pick (ltb n 1) false (leb n m)
+
+abbrev pub isUnit : ℕ → Bool
+isUnit n = leb n unitMost
+
+abbrev pub isPolicy : ℕ → Bool
+isPolicy n = oneTo policyMost n
+
+abbrev pub isCapacity : ℕ → Bool
+isCapacity n = oneTo capacityMost n
+
+abbrev pub isPlaces : ℕ → Bool
+isPlaces n = oneTo placesMost n
+
+abbrev pub isCatalogue : ℕ → Bool
+isCatalogue n = oneTo catalogueMost n
+
+abbrev pub isSize : ℕ → Bool
+isSize n = oneTo sizeMost n
+
+abbrev pub isCost : ℕ → Bool
+isCost n = leb n costMost

@@ -1,0 +1,59 @@
+// The cost of fetching a file, and sums of costs.
+use crate::bytes::Bytes;
+ghost use mathlib.Core.Path.{_≡_};
+ghost use mathlib.Core.Bool.{true};
+ghost use Prim.Native.Nat.{_+_, _<_};
+ghost use Rattle.amounts.specs.Limits.{isCost, isSize, word};
+ghost use Rattle.amounts.specs.Made.{costOf};
+ghost use Rattle.amounts.specs.Worth.{inForce};
+
+pub struct Cost(pub u64);
+
+pub enum MaybeCost {
+    Is(Cost),
+    OutOfRange,
+}
+
+impl Cost {
+    pub const MOST: u64 = 65535;
+
+    pub const PACKET: u64 = 536;
+
+    pub const PACKETS_LEAST: u64 = 2;
+
+    // Whether a number may be the cost in a request.
+    pub fn is_cost(n: u64) -> bool
+        ensures { λ r. ⌜ r ≡ isCost n ⌝ }
+    {
+        n <= Cost::MOST
+    }
+
+    // The cost in a request.
+    pub fn asked(n: u64) -> MaybeCost
+        ensures { λ r. ⌜ r ≡ costOf n ⌝ }
+    {
+        if Cost::is_cost(n) {
+            return MaybeCost::Is(Cost(n));
+        }
+        MaybeCost::OutOfRange
+    }
+
+    // The cost in force: the packet estimate stands in for 0.
+    pub fn in_force(self, size: Bytes) -> Cost
+        requires { ⌜ isSize (size .0) ≡ true ⌝ }
+        ensures { λ r. ⌜ r .0 ≡ inForce (size .0) (self .0) ⌝ }
+    {
+        if self.0 == 0 {
+            return Cost(Cost::PACKETS_LEAST + size.0 / Cost::PACKET);
+        }
+        self
+    }
+
+    // Two costs together.
+    pub fn plus(self, more: Cost) -> Cost
+        requires { ⌜ self .0 + more .0 < word ⌝ }
+        ensures { λ r. ⌜ r .0 ≡ self .0 + more .0 ⌝ }
+    {
+        Cost(self.0 + more.0)
+    }
+}

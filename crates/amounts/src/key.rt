@@ -1,0 +1,73 @@
+// A key, as inflation, worth and frequency × worth are too; and which of two files is lower.
+use crate::bytes::Bytes;
+use crate::cost::Cost;
+ghost use mathlib.Core.Path.{_≡_};
+ghost use Prim.Native.Nat.{_+_, _<_, _≤_};
+ghost use Rattle.amounts.specs.Limits.{requestsMost, word};
+ghost use Rattle.amounts.specs.Made.{keyOf};
+ghost use Rattle.amounts.specs.Worth.{worthOf, productOf, Valued};
+ghost use Rattle.amounts.specs.Order.{lowerOf};
+
+pub struct Key(pub u64);
+
+pub enum MaybeKey {
+    Is(Key),
+    OutOfRange,
+}
+
+impl Key {
+    pub const SCALE: u64 = 16777216;
+
+    pub const WORTH_MOST: u64 = 1099494850560;
+
+    pub const MOST: u64 = 1152903912420802560;
+
+    // A key that a run can reach: no more than the largest worth for each request.
+    pub fn new(n: u64) -> MaybeKey
+        ensures { λ r. ⌜ r ≡ keyOf n ⌝ }
+    {
+        if n <= Key::MOST {
+            return MaybeKey::Is(Key(n));
+        }
+        MaybeKey::OutOfRange
+    }
+
+    // The key of a file: inflation and what the file adds to it.
+    pub fn plus(self, more: Key) -> Key
+        requires { ⌜ self .0 + more .0 < word ⌝ }
+        ensures { λ r. ⌜ r .0 ≡ self .0 + more .0 ⌝ }
+    {
+        Key(self.0 + more.0)
+    }
+}
+
+// Cost × scale / size, rounded down.
+pub fn worth(size: Bytes, cost: Cost) -> Key
+    requires { ⌜ Valued (size .0) (cost .0) ⌝ }
+    ensures { λ r. ⌜ r .0 ≡ worthOf (size .0) (cost .0) ⌝ }
+{
+    Key(cost.0 * Key::SCALE / size.0)
+}
+
+// Frequency × worth.
+pub fn product(frequency: u64, size: Bytes, cost: Cost) -> Key
+    requires { ⌜ Valued (size .0) (cost .0) ⌝ }
+    requires { ⌜ frequency ≤ requestsMost ⌝ }
+    ensures { λ r. ⌜ r .0 ≡ productOf frequency (size .0) (cost .0) ⌝ }
+{
+    let w = worth(size, cost);
+    Key(frequency * w.0)
+}
+
+// Whether file a is lower than file b: the smaller key; among equal keys, the smaller stamp.
+pub fn lower(key_a: Key, stamp_a: u64, key_b: Key, stamp_b: u64) -> bool
+    ensures { λ r. ⌜ r ≡ lowerOf («key_a» .0) «stamp_a» («key_b» .0) «stamp_b» ⌝ }
+{
+    if key_a.0 < key_b.0 {
+        return true;
+    }
+    if key_b.0 < key_a.0 {
+        return false;
+    }
+    stamp_a < stamp_b
+}

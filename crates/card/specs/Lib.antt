@@ -1,0 +1,2 @@
+-- What the promises cite for their answers.
+pub mod Card
