@@ -1,0 +1,110 @@
+-- The totals agree with one another and with the shelf after every request. Assumes nothing.
+use mathlib.Core.Path.{_≡_, refl, sym, ap, _∙_}
+use mathlib.Core.Bool.{true}
+use mathlib.Core.List.{List, [], _∷_, _++_}
+use Prim.Native.Nat.{ℕ, zero, suc, _+_, _*_, _≤_, _<_}
+use native.Mathlib.Omega.{arith}
+use lib.ListN.{length, getD}
+use Rattle.amounts.specs.Limits.{sizeMost, costMost}
+use Rattle.amounts.specs.Worth.{Valued}
+use Rattle.amounts.specs.Requests.{Request, resolved, Ranged, AllRanged}
+use Rattle.method.specs.Shelf.{Shelf, none, kept, files}
+use Rattle.method.specs.Method.{Policy, Settings, Reply, Served, State, step, run}
+use Rattle.method.specs.Totals.{Totals, onHit, onAdmitted, onPassed, counted, totals, zeros, Agreed}
+use Rattle.method.specs.Promise.{Sound, SoundAt}
+use Rattle.method.specs.declared.Outcome.{Outcome}
+use Rattle.method.specs.declared.Outcome.the-variants.{Hit, Admitted, Passed}
+use Rattle.method.proofs.Cases.{meet-by}
+use Rattle.method.proofs.Counts.{Counts, step-counts}
+use Rattle.method.proofs.Sound.{resolved-valued, step-sound}
+
+-- a request is counted with a size and a cost in range
+pub step-valued : (p : Policy) (c : Settings) (st : State) (n : ℕ) → SoundAt p c st n → (q : Request) → Ranged (c .catalogue) q
+    → Valued (step p c st q .reply .size) (step p c st q .reply .cost)
+unfolding step
+step-valued p c st n h q w =
+    let v : Valued (resolved q .size) (resolved q .cost) = resolved-valued (c .catalogue) q w in
+    meet-by p c (st .inflation) (st .shelf) (st .stamp) (resolved q) (λ x. Valued (x .reply .size) (x .reply .cost)) (λ _. v) (λ r e. h .fine (q .file) r e .valued) (λ _ _ _. v)
+    (λ _ _ _. v) (getD (st .shelf) (q .file) none) refl
+
+-- an outcome is one of the three
+one-kind : (o : Outcome) → onHit o 1 + onAdmitted o 1 + onPassed o 1 ≡ 1
+one-kind Hit = refl
+one-kind Admitted = refl
+one-kind (Passed w) = refl
+
+-- what a hit adds, against what the request adds
+record Added (o : Outcome) (n m : ℕ) : Type 0 where
+  least : onHit o 1 ≤ onHit o n
+  most : onHit o n ≤ onHit o 1 * m
+  asked : onHit o n ≤ n
+
+added : (o : Outcome) (n m : ℕ) → 1 ≤ n → n ≤ m → Added o n m
+added Hit n m a b = record { least = omega arith; most = omega arith; asked = omega arith }
+added Admitted n m a b = record { least = omega arith; most = omega arith; asked = omega arith }
+added (Passed w) n m a b = record { least = omega arith; most = omega arith; asked = omega arith }
+
+-- one reply counted
+pub counted-agreed : (k k′ : ℕ) (a : Reply) (y : Totals) → Valued (a .size) (a .cost) → length (a .evicted) + k′ ≡ k + onAdmitted (a .outcome) 1 → Agreed k y → Agreed k′ (counted y a)
+counted-agreed k k′ a y v e g =
+    let o : Outcome = a .outcome in
+    let b : Added o (a .size) sizeMost = added o (a .size) sizeMost (v .size-least) (v .size-most) in
+    let d : Added o (a .cost) costMost = added o (a .cost) costMost (v .cost-least) (v .cost-most) in
+    record {
+      outcomes = omega (arith, one-kind o, g .outcomes);
+      evicted = omega (arith, g .evicted);
+      hit-bytes-least = omega (arith, b .least, g .hit-bytes-least);
+      hit-bytes-most = omega (arith, b .most, g .hit-bytes-most);
+      hit-bytes-asked = omega (arith, b .asked, g .hit-bytes-asked);
+      bytes-least = omega (arith, v .size-least, g .bytes-least);
+      bytes-most = omega (arith, v .size-most, g .bytes-most);
+      hit-cost-least = omega (arith, d .least, g .hit-cost-least);
+      hit-cost-most = omega (arith, d .most, g .hit-cost-most);
+      hit-cost-asked = omega (arith, d .asked, g .hit-cost-asked);
+      cost-least = omega (arith, v .cost-least, g .cost-least);
+      cost-most = omega (arith, v .cost-most, g .cost-most);
+    }
+
+-- ---- a request, and a run
+
+pub step-agreed : (p : Policy) (c : Settings) (st : State) (n : ℕ) → SoundAt p c st n → (q : Request) → Ranged (c .catalogue) q → (y : Totals) → Agreed (files (st .shelf)) y
+    → Agreed (files (step p c st q .state .shelf)) (counted y (step p c st q .reply))
+step-agreed p c st n h q w y g =
+    counted-agreed (files (st .shelf)) _ (step p c st q .reply) y (step-valued p c st n h q w) (step-counts p c st q (omega (arith, h .slots, w .file))) g
+
+pub run-agreed : (p : Policy) (c : Settings) → 1 ≤ c .places → (st : State) (n : ℕ) → SoundAt p c st n → (qs : List Request) → AllRanged (c .catalogue) qs
+    → (y : Totals) → Agreed (files (st .shelf)) y → Agreed (files (run (step p c) st qs .state .shelf)) (totals y (run (step p c) st qs .replies))
+unfolding run totals
+run-agreed p c one st n h [] v y g = g
+run-agreed p c one st n h (q ∷ qs) v y g =
+    run-agreed p c one (step p c st q .state) (suc n) (step-sound p c one st n h q (v .0)) qs (v .1) (counted y (step p c st q .reply)) (step-agreed p c st n h q (v .0) y g)
+
+-- a fresh start's totals agree
+pub zeros-agreed : Agreed 0 zeros
+zeros-agreed =
+    record {
+      outcomes = refl;
+      evicted = refl;
+      hit-bytes-least = omega arith;
+      hit-bytes-most = omega arith;
+      hit-bytes-asked = omega arith;
+      bytes-least = omega arith;
+      bytes-most = omega arith;
+      hit-cost-least = omega arith;
+      hit-cost-most = omega arith;
+      hit-cost-asked = omega arith;
+      cost-least = omega arith;
+      cost-most = omega arith;
+    }
+
+-- ---- totals in parts, and how many are counted
+
+pub totals-append : (y : Totals) (xs ys : List Reply) → totals y (xs ++ ys) ≡ totals (totals y xs) ys
+unfolding totals
+totals-append y [] ys = refl
+totals-append y (a ∷ xs) ys = totals-append (counted y a) xs ys
+
+pub totals-requests : (y : Totals) (xs : List Reply) → totals y xs .requests ≡ y .requests + length xs
+unfolding totals
+totals-requests y [] = omega arith
+totals-requests y (a ∷ xs) = omega (arith, totals-requests (counted y a) xs)

@@ -1,0 +1,33 @@
+-- The event list (document 01, "Event list"). Assumes nothing.
+use mathlib.Core.List.{List, [], _∷_, _++_, map}
+use Prim.Native.Nat.{ℕ, _+_, _*_}
+use Rattle.amounts.specs.Limits.{catalogueMost}
+use Rattle.amounts.specs.Requests.{Request}
+use Rattle.method.specs.Method.{Gone, Reply}
+use Rattle.method.specs.declared.Pass.the-variants.{TooBig, LowKey}
+use Rattle.method.specs.declared.Outcome.{Outcome}
+use Rattle.method.specs.declared.Outcome.the-variants.{Hit, Admitted, Passed}
+
+-- document 01, "Event list": kind × 32,768 + file
+abbrev pub event : ℕ → ℕ → ℕ
+event kind file = kind * catalogueMost + file
+
+-- document 01, "Event list": 1 hit, 2 admit, 3 big, 4 low
+abbrev pub kind : Outcome → ℕ
+kind Hit = 1
+kind Admitted = 2
+kind (Passed TooBig) = 3
+kind (Passed LowKey) = 4
+
+-- 5 evict
+abbrev pub evict : Gone → ℕ
+evict g = event 5 (g .file)
+
+-- a request's evictions come first, in order, then its own entry
+abbrev pub entries : Request → Reply → List ℕ
+entries q a = map evict (a .evicted) ++ event (kind (a .outcome)) (q .file) ∷ []
+
+unfoldable pub events : List Request → List Reply → List ℕ
+events [] bs = []
+events (q ∷ qs) [] = []
+events (q ∷ qs) (a ∷ bs) = entries q a ++ events qs bs

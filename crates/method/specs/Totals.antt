@@ -1,0 +1,75 @@
+-- The totals of a tally, from the replies (document 01, "Tables and the tally"). Assumes nothing.
+use mathlib.Core.Path.{_≡_}
+use mathlib.Core.List.{List, [], _∷_}
+use Prim.Native.Nat.{ℕ, suc, _+_, _*_, _≤_}
+use lib.ListN.{length}
+use Rattle.amounts.specs.Limits.{sizeMost, costMost}
+use Rattle.method.specs.Method.{Reply}
+use Rattle.method.specs.declared.Outcome.{Outcome}
+use Rattle.method.specs.declared.Outcome.the-variants.{Hit, Admitted, Passed}
+
+pub record Totals : Type 0 where
+  pub requests : ℕ
+  pub hits : ℕ
+  pub admitted : ℕ
+  pub passed : ℕ
+  pub evicted : ℕ
+  pub bytes : ℕ
+  pub hitBytes : ℕ
+  pub cost : ℕ
+  pub hitCost : ℕ
+
+-- n for a hit, 0 for any other outcome; and so for the other two
+abbrev pub onHit : Outcome → ℕ → ℕ
+onHit Hit n = n
+onHit Admitted n = 0
+onHit (Passed w) n = 0
+
+abbrev pub onAdmitted : Outcome → ℕ → ℕ
+onAdmitted Hit n = 0
+onAdmitted Admitted n = n
+onAdmitted (Passed w) n = 0
+
+abbrev pub onPassed : Outcome → ℕ → ℕ
+onPassed Hit n = 0
+onPassed Admitted n = 0
+onPassed (Passed w) n = n
+
+-- one reply counted
+abbrev pub counted : Totals → Reply → Totals
+counted y a =
+    record {
+      requests = suc (y .requests);
+      hits = y .hits + onHit (a .outcome) 1;
+      admitted = y .admitted + onAdmitted (a .outcome) 1;
+      passed = y .passed + onPassed (a .outcome) 1;
+      evicted = y .evicted + length (a .evicted);
+      bytes = y .bytes + a .size;
+      hitBytes = y .hitBytes + onHit (a .outcome) (a .size);
+      cost = y .cost + a .cost;
+      hitCost = y .hitCost + onHit (a .outcome) (a .cost);
+    }
+
+-- document 01, "Tables and the tally": the totals after the replies
+unfoldable pub totals : Totals → List Reply → Totals
+totals y [] = y
+totals y (a ∷ bs) = totals (counted y a) bs
+
+-- a fresh start's
+abbrev pub zeros : Totals
+zeros = record { requests = 0; hits = 0; admitted = 0; passed = 0; evicted = 0; bytes = 0; hitBytes = 0; cost = 0; hitCost = 0 }
+
+-- document 01, "Tables and the tally": what soundness asks of the totals, with so many files kept
+pub record Agreed (kept : ℕ) (y : Totals) : Type 0 where
+  pub outcomes : y .hits + y .admitted + y .passed ≡ y .requests
+  pub evicted : y .evicted + kept ≡ y .admitted
+  pub hit-bytes-least : y .hits ≤ y .hitBytes
+  pub hit-bytes-most : y .hitBytes ≤ y .hits * sizeMost
+  pub hit-bytes-asked : y .hitBytes ≤ y .bytes
+  pub bytes-least : y .requests ≤ y .bytes
+  pub bytes-most : y .bytes ≤ y .requests * sizeMost
+  pub hit-cost-least : y .hits ≤ y .hitCost
+  pub hit-cost-most : y .hitCost ≤ y .hits * costMost
+  pub hit-cost-asked : y .hitCost ≤ y .cost
+  pub cost-least : y .requests ≤ y .cost
+  pub cost-most : y .cost ≤ y .requests * costMost
