@@ -32,7 +32,11 @@ costMost = 65535
 abbrev pub requestsMost : ℕ
 requestsMost = 1048576
 
--- what one more than fits a 64-bit word is
+-- document 01, "Tables and the tally": the place of a file that is not kept
+abbrev pub noPlace : ℕ
+noPlace = 65535
+
+-- one more than the largest 64-bit number
 abbrev pub word : ℕ
 word = 18446744073709551616
 

@@ -67,7 +67,7 @@ fits-true c e s h = go (leb (bytes s + e .bytes) (c .capacity)) refl h
     go false p k = let z : _≡_ {A = ℕ} 0 1 = cc in absurd (omega arith)
 
 -- a shelf with no file is empty of bytes
-sum-empty : (f : Kept → ℕ) (s : Shelf) → ((j : ℕ) (q : Kept) → getD s j none ≡ kept q → ⊥) → sum f s ≡ 0
+pub sum-empty : (f : Kept → ℕ) (s : Shelf) → ((j : ℕ) (q : Kept) → getD s j none ≡ kept q → ⊥) → sum f s ≡ 0
 unfolding sum
 sum-empty f [] h = refl
 sum-empty f (none ∷ s) h = omega (arith, sum-empty f s (λ j. h (suc j)))

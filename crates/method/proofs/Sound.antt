@@ -20,11 +20,11 @@ use Rattle.method.proofs.Cases.{room₁, room₂, admitted₁, admitted
 
 -- ---- stamps
 
-apart-none : (s : Shelf) (k : ℕ) → Apart s → Apart (set s k none)
+pub apart-none : (s : Shelf) (k : ℕ) → Apart s → Apart (set s k none)
 apart-none s k h i j r q a b =
     ⊎-elim (λ z. none-kept (z .1)) (λ a. ⊎-elim (λ z. none-kept (z .1)) (λ b. h i j r q a b) (at-set s k none j q b)) (at-set s k none i r a)
 
-apart-put : (s : Shelf) (k : ℕ) (p : Kept) → Each (λ r. r .stamp < p .stamp) s → Apart s → Apart (set s k (kept p))
+pub apart-put : (s : Shelf) (k : ℕ) (p : Kept) → Each (λ r. r .stamp < p .stamp) s → Apart s → Apart (set s k (kept p))
 apart-put s k p new h i j r q a b e = go (at-set s k (kept p) i r a) (at-set s k (kept p) j q b)
   where
     go : ((i ≡ k) × (kept p ≡ kept r)) ⊎ (getD s i none ≡ kept r) → ((j ≡ k) × (kept p ≡ kept q)) ⊎ (getD s j none ≡ kept q) → i ≡ j

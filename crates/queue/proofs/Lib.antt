@@ -1,0 +1,8 @@
+-- `Totals`, `Index` and `Callers` have the laws that callers cite; the others are for the proofs of this crate.
+pub mod Totals
+pub mod Index
+pub mod Callers
+pub mod Exchange
+pub mod Heap
+pub mod Turns
+pub mod Stores

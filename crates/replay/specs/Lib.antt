@@ -1,0 +1,2 @@
+-- How the run makes room (Taking).
+pub mod Taking

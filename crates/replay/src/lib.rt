@@ -1,0 +1,1 @@
+// One request, a part, a run carried on.

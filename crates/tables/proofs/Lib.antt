@@ -1,0 +1,4 @@
+-- The laws of the tables, of a fresh start and of soundness.
+pub mod Lists
+pub mod Lengths
+pub mod Starting

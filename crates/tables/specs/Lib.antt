@@ -1,0 +1,5 @@
+-- The lent tables (Tables), the tally (Tally), a fresh start (Start), when both are sound (Sound).
+pub mod Tables
+pub mod Tally
+pub mod Start
+pub mod Sound

@@ -1,0 +1,81 @@
+-- When a tally and tables are sound: the conditions of document 01, "Tables and the tally", in its order. Assumes nothing.
+use mathlib.Core.Path.{_≡_}
+use mathlib.Core.Logic.{_⊎_}
+use mathlib.Core.Bool.{Bool, true, false}
+use mathlib.Core.List.{List}
+use Prim.Native.Nat.{ℕ, _+_, _≤_, _<_}
+use lib.ListN.{length, getD}
+use Rattle.amounts.specs.Limits.{requestsMost, noPlace}
+use Rattle.amounts.specs.declared.settings.Settings.{Settings}
+use Rattle.queue.specs.Queue.{times, Ordered, Indexed}
+use Rattle.method.specs.Shelf.{bytes, files}
+use Rattle.method.specs.Totals.{Agreed}
+use Rattle.method.specs.Promise.{SoundAt}
+use Rattle.tables.specs.Tables.{Tables, shelfOf}
+use Rattle.tables.specs.Tally.{storeOf, policyIn, totalsOf, stateOf}
+use Rattle.tables.specs.declared.tally.Tally.{Tally}
+
+-- file f has place p, and the place has the file
+pub record At (s : Settings) (t : Tables) (f p : ℕ) : Type 0 where
+  pub known : f < s .catalogue .0
+  pub inside : p < s .places .0
+  pub place : getD (t .place) f 0 ≡ p
+  pub file : getD (t .file) p 0 ≡ f
+
+-- a place is occupied where it and its file point at each other
+abbrev pub Occupied : Settings → Tables → ℕ → Type 0
+Occupied s t p = At s t (getD (t .file) p 0) p
+
+-- the record at a place is 0
+pub record Zero (t : Tables) (p : ℕ) : Type 0 where
+  pub file : getD (t .file) p 0 ≡ 0
+  pub size : getD (t .size) p 0 ≡ 0
+  pub cost : getD (t .cost) p 0 ≡ 0
+  pub freq : getD (t .freq) p 0 ≡ 0
+  pub key : getD (t .key) p 0 ≡ 0
+  pub stamp : getD (t .stamp) p 0 ≡ 0
+
+-- document 01: places and file numbers point at each other both ways; unused places are 0
+pub record Linked (s : Settings) (t : Tables) : Type 0 where
+  pub out : (f : ℕ) → f < s .catalogue .0 → (getD (t .place) f 0 ≡ noPlace) ⊎ At s t f (getD (t .place) f 0)
+  pub unused : (p : ℕ) → p < s .places .0 → (Occupied s t p → ⊥) → Zero t p
+
+-- document 01: the queue holds each occupied place once; queue entries past the n files kept are 0
+pub record Queued (s : Settings) (n : ℕ) (t : Tables) : Type 0 where
+  pub entries : (i : ℕ) → i < n → Occupied s t (getD (t .queue) i 0)
+  pub once : (p : ℕ) → Occupied s t p → times p (t .queue) n ≡ 1
+  pub rest : (i : ℕ) → n ≤ i → i < s .places .0 → getD (t .queue) i 0 ≡ 0
+
+pub record Sound (a : Tally) (t : Tables) : Type 0 where
+  -- hits + admitted + passed = requests, evicted + files kept = admitted, and the totals against their bounds
+  pub agreed : Agreed (a .«files_kept») (totalsOf a)
+  pub few : a .requests ≤ requestsMost
+  pub linked : Linked (a .settings) t
+  pub queued : Queued (a .settings) (a .«files_kept») t
+  -- no entry lower than the one above it
+  pub ordered : Ordered (t .queue) (t .key) (t .stamp) (a .«files_kept»)
+  -- each record in range with a stamp of its own below requests; frequencies, sizes, keys, inflation and products within their bounds
+  pub shelf : SoundAt (policyIn (a .settings)) (storeOf (a .settings)) (stateOf a t) (a .requests)
+  -- files and bytes kept are those of the shelf
+  pub files : files (stateOf a t .shelf) ≡ a .«files_kept»
+  pub bytes : bytes (stateOf a t .shelf) ≡ a .«bytes_kept» .0
+
+-- ---- What the call's own lists hold beside sound tables
+
+-- the first places - n entries of the stack are unused places, each once
+pub record Spare (s : Settings) (n : ℕ) (t : Tables) (free : List ℕ) : Type 0 where
+  pub unused : (i : ℕ) → i + n < s .places .0 → (getD free i 0 < s .places .0) × (Occupied s t (getD free i 0) → ⊥)
+  pub apart : (i j : ℕ) → i + n < s .places .0 → j + n < s .places .0 → getD free i 0 ≡ getD free j 0 → i ≡ j
+
+-- which queue entry holds a place, and the stack of free places
+pub record Desk (a : Tally) (t : Tables) (entry free : List ℕ) : Type 0 where
+  pub indexed : Indexed (t .queue) entry (a .«files_kept»)
+  pub spare : Spare (a .settings) (a .«files_kept») t free
+
+-- what the judge promises: yes exactly for sound tables, and then the call's own lists are ready; their lengths stay
+pub record Verdict (a : Tally) (t : Tables) (entry entry′ free free′ : List ℕ) (answer : Bool) : Type 0 where
+  pub yes : answer ≡ true → Sound a t
+  pub no : answer ≡ false → Sound a t → ⊥
+  pub ready : answer ≡ true → Desk a t entry′ free′
+  pub entry-long : length entry′ ≡ length entry
+  pub free-long : length free′ ≡ length free
