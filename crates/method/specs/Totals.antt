@@ -39,7 +39,7 @@ onPassed (Passed w) n = n
 abbrev pub counted : Totals → Reply → Totals
 counted y a =
     record {
-      requests = suc (y .requests);
+      requests = y .requests + 1;
       hits = y .hits + onHit (a .outcome) 1;
       admitted = y .admitted + onAdmitted (a .outcome) 1;
       passed = y .passed + onPassed (a .outcome) 1;

@@ -4,7 +4,7 @@ use amounts::lower;
 ghost use mathlib.Core.Path.{_≡_};
 ghost use Prim.Native.Nat.{_<_};
 ghost use lib.ListN.{length, getD};
-ghost use Rattle.amounts.specs.Order.{lowerOf};
+ghost use Rattle.queue.specs.Queue.{lowerAt};
 ghost use Rattle.queue.specs.Moves.{Legible, Slot, Placed, Pair, Exchanged};
 
 // A place as an index into the lent tables.
@@ -18,7 +18,7 @@ pub(crate) fn wide(place: u16) -> usize
 fn lower_place(keys: &[u64], stamps: &[u64], a: usize, b: usize) -> bool
     requires { ⌜ (a < length (now keys)) × (b < length (now keys)) ⌝ }
     requires { ⌜ (a < length (now stamps)) × (b < length (now stamps)) ⌝ }
-    ensures { λ r. ⌜ r ≡ lowerOf (getD (now (keys .entry)) a 0) (getD (now (stamps .entry)) a 0) (getD (now (keys .entry)) b 0) (getD (now (stamps .entry)) b 0) ⌝ }
+    ensures { λ r. ⌜ r ≡ lowerAt (now (keys .entry)) (now (stamps .entry)) a b ⌝ }
 {
     let key_a = keys[a];
     let key_b = keys[b];
@@ -31,14 +31,14 @@ fn lower_place(keys: &[u64], stamps: &[u64], a: usize, b: usize) -> bool
 pub(crate) fn lower_entry(queue: &[u16], keys: &[u64], stamps: &[u64], i: usize, j: usize) -> bool
     requires { ⌜ Legible (now queue) (now keys) (now stamps) i ⌝ }
     requires { ⌜ Legible (now queue) (now keys) (now stamps) j ⌝ }
-    ensures { λ r. ⌜ r ≡ lowerOf (getD (now (keys .entry)) (getD (now (queue .entry)) i 0) 0) (getD (now (stamps .entry)) (getD (now (queue .entry)) i 0) 0) (getD (now (keys .entry)) (getD (now (queue .entry)) j 0) 0) (getD (now (stamps .entry)) (getD (now (queue .entry)) j 0) 0) ⌝ }
+    ensures { λ r. ⌜ r ≡ lowerAt (now (keys .entry)) (now (stamps .entry)) (getD (now (queue .entry)) i 0) (getD (now (queue .entry)) j 0) ⌝ }
 {
     let a = wide(queue[i]);
     let b = wide(queue[j]);
     lower_place(keys, stamps, a, b)
 }
 
-// Stores a place at entry i and i at the place's index, which nothing else may do, so that the two stay in step.
+// Stores a place at entry i, and i in the index: every move of a place is made of this, so that the two stay in step.
 pub(crate) fn put(queue: &mut [u16], entry: &mut [u16], i: usize, place: u16)
     requires { ⌜ Slot (now queue) (now entry) i place ⌝ }
     ensures { λ _. ⌜ Placed (now (queue .entry)) (now (queue .exit)) (now (entry .entry)) (now (entry .exit)) i place ⌝ }
@@ -48,7 +48,7 @@ pub(crate) fn put(queue: &mut [u16], entry: &mut [u16], i: usize, place: u16)
     entry[p] = i as u16;
 }
 
-// Exchanges entries i and j.
+// Exchanges entries i and j: whatever is out of order, the places held stay the same.
 pub(crate) fn exchange(queue: &mut [u16], entry: &mut [u16], i: usize, j: usize)
     requires { ⌜ Pair (now queue) (now entry) i j ⌝ }
     ensures { λ _. ⌜ Exchanged (now (queue .entry)) (now (queue .exit)) (now (entry .entry)) (now (entry .exit)) i j ⌝ }

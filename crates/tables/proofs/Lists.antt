@@ -3,7 +3,7 @@ use mathlib.Core.Path.{_≡_, refl, sym, ap, _∙_}
 use mathlib.Core.List.{List}
 use Prim.Native.Nat.{ℕ, _+_, _-_, _≤_, _<_}
 use native.Mathlib.Omega.{arith}
-use lib.ListN.{length, set, take, drop, replicate, length-append, length-replicate, length-drop}
+use lib.ListN.{length, getD, set, take, drop, replicate, length-append, length-replicate, length-drop, List·getD-append, getD-replicate}
 use lib.Seq.{take-at, drop-at}
 use borrow.Author.Fill.{fill-none, fill-more}
 use Rattle.tables.specs.Tables.{filled}
@@ -28,3 +28,7 @@ take-filled n v l = take-at (replicate n v) (drop n l) n (length-replicate n v)
 pub drop-filled : (n v : ℕ) (l : List ℕ) → drop n (filled n v l) ≡ drop n l
 unfolding filled
 drop-filled n v l = drop-at (replicate n v) (drop n l) n (length-replicate n v)
+
+pub at-filled : (n v : ℕ) (l : List ℕ) (i : ℕ) → i < n → getD (filled n v l) i 0 ≡ v
+unfolding filled
+at-filled n v l i h = List·getD-append (replicate n v) (drop n l) 0 i (omega (arith, length-replicate n v)) ∙ getD-replicate n i v 0 h

@@ -1,2 +1,0 @@
--- How the run makes room (Taking).
-pub mod Taking

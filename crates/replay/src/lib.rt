@@ -1,1 +1,0 @@
-// One request, a part, a run carried on.

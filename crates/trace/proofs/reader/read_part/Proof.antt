@@ -1,0 +1,45 @@
+-- `trace::reader::read_part` meets its contract. Assumes nothing.
+use borrow.Author.Needs.{needs}
+use native.Mathlib.Omega.{arith}
+use Rattle.amounts.proofs.Tests.{denied, allowed}
+use Rattle.trace.proofs.Answers.{part-setting, part-from}
+use Rattle.trace.proofs.reader.read_part.Statement.{statement}
+use Rattle.trace.proofs.reader.read_part.Tie as tie
+
+is-catalogue-requires : tie.Need-is-catalogue-requires
+is-catalogue-requires c κs = search needs
+
+returns : tie.Need-returns
+returns c = part-setting _ _ _ _ _ (denied (c .before .is-catalogue .ensures) (c .if1 .taken))
+
+read-from-requires : tie.Need-read-from-requires
+read-from-requires c κs =
+    let q = c .before .before .before in
+    (omega arith, allowed (q .before .is-catalogue .ensures) (q .if1 .left))
+
+same-length : tie.Need-same-length
+same-length c = search needs
+
+same-length-2 : tie.Need-same-length-2
+same-length-2 c = search needs
+
+same-length-3 : tie.Need-same-length-3
+same-length-3 c = search needs
+
+returns-2 : tie.Need-returns-2
+returns-2 c =
+    let l = c .before .before .before .before .before .before in
+    let q = l .before .before .before .before in
+    part-from _ _ _ _ _ (allowed (q .before .is-catalogue .ensures) (q .if1 .left)) _ _ _ _ (l .read-from .ensures)
+
+pub read-part-spec : {M : Type 1} → statement M
+read-part-spec =
+    tie.close
+    (tie.spec
+    is-catalogue-requires
+    returns
+    read-from-requires
+    same-length
+    same-length-2
+    same-length-3
+    returns-2)

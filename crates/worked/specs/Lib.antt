@@ -1,0 +1,2 @@
+-- The bench pieces that are proved.
+pub mod Pieces
