@@ -1,12 +1,12 @@
 -- What a fresh start leaves is sound. Assumes nothing.
-use mathlib.Core.Path.{_≡_, refl, sym, ap, _∙_, subst}
+use mathlib.Core.Path.{_≡_, sym, ap, _∙_, subst}
 use mathlib.Core.Logic.{inl}
 use mathlib.Core.Bool.{true}
 use mathlib.Core.List.{List}
-use Prim.Native.Nat.{ℕ, _≤_, _<_}
+use Prim.Native.Nat.{ℕ, _<_}
 use native.Mathlib.Omega.{arith}
 use lib.ListN.{getD}
-use Rattle.amounts.specs.Limits.{noPlace, placesMost}
+use Rattle.amounts.specs.Limits.{noPlace}
 use Rattle.amounts.specs.Settings.{inRange}
 use Rattle.amounts.specs.declared.settings.Settings.{Settings}
 use Rattle.method.specs.Shelf.{Shelf, files, bytes}
@@ -17,10 +17,10 @@ use Rattle.method.proofs.Sound as method
 use Rattle.method.proofs.Agreement.{zeros-agreed}
 use Rattle.tables.specs.Tables.{Tables, shelfOf, cleared, filled}
 use Rattle.tables.specs.Tally.{storeOf, policyIn, freshTally}
-use Rattle.tables.specs.Sound.{At, Occupied, Sound}
+use Rattle.tables.specs.Sound.{Occupied, Sound}
 use Rattle.tables.proofs.Lists.{at-filled}
 use Rattle.tables.proofs.Shelves.{fresh-shelf}
-use Rattle.tables.proofs.Ranges.{Bounded, bounded}
+use Rattle.tables.proofs.Ranges.{bounded}
 
 module _ (s : Settings) (t : Tables) (h : inRange s ≡ true) where
   abbrev u : Tables

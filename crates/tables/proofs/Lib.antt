@@ -5,3 +5,8 @@ pub mod Ranges
 pub mod Shelves
 pub mod Starting
 pub mod FreshSound
+pub mod Counting
+pub mod Twins
+pub mod Worked
+pub mod Deciding
+pub mod SoundDecided

@@ -1,8 +1,7 @@
 -- The shelf that tables stand for: the slot of a file, and what a change of the tables makes of it. Assumes nothing.
-use mathlib.Core.Path.{_≡_, refl, sym, ap, _∙_}
-use mathlib.Core.Bool.{Bool, true, false}
+use mathlib.Core.Path.{_≡_, refl, ap, _∙_}
 use mathlib.Core.List.{List, [], _∷_, map}
-use Prim.Native.Nat.{ℕ, zero, suc, _+_, _≤_, _<_}
+use Prim.Native.Nat.{ℕ, zero, suc, _≤_, _<_}
 use native.Mathlib.Omega.{arith}
 use lib.Dec.{eqb}
 use lib.ListN.{length, getD, set, take, replicate, length-map}
@@ -10,7 +9,7 @@ use lib.Seq.{length-take-le, getD-take, take-set-lt}
 use borrow.Author.Tests.{eq-eqb, ne-eqb}
 use Rattle.amounts.specs.Limits.{pick, noPlace}
 use Rattle.amounts.proofs.Tests.{pick-true, pick-false}
-use Rattle.method.specs.Shelf.{Kept, Slot, none, kept, Shelf}
+use Rattle.method.specs.Shelf.{none, kept}
 use Rattle.tables.specs.Tables.{Tables, recordAt, slotOf, shelfOf, cleared}
 use Rattle.tables.proofs.Lists.{take-filled}
 

@@ -1,5 +1,7 @@
--- The lent tables (Tables), the tally (Tally), a fresh start (Start), when both are sound (Sound).
+-- The lent tables (Tables), the tally (Tally), a fresh start (Start), when both are sound (Sound); sums for counting places (Below).
 pub mod Tables
 pub mod Tally
 pub mod Start
 pub mod Sound
+pub mod Below
+pub mod Worked

@@ -4,6 +4,7 @@ mod length;
 mod start;
 mod tally;
 
+pub use fill::fill16;
 pub use length::long_enough;
 pub use start::Started;
 pub use start::fresh;
