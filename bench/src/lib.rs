@@ -1,4 +1,6 @@
-//! The Rust side: an independent model of the bench, written from document 01 alone.
+//! The Rust side: the library's boundary, and an independent model to compare it with.
 
+#[cfg(feature = "linked")]
+pub mod boundary;
 pub mod model;
 pub mod random;

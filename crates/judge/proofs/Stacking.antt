@@ -15,8 +15,8 @@ use Rattle.queue.specs.Queue.{one}
 use Rattle.tables.specs.Tables.{Tables}
 use Rattle.tables.specs.Below.{sumBelow}
 use Rattle.tables.proofs.Counting.{sum-below-more}
+use Rattle.weighing.proofs.Answers.{answer-yes, answer-no}
 use Rattle.judge.specs.Passes.{Held, Blank, noted, Stackable, Stacked}
-use Rattle.judge.proofs.Answers.{answer-yes, answer-no}
 
 pub noted-none : (entry : List ℕ) (p : ℕ) → getD entry p 0 ≡ noPlace → noted entry p ≡ 0
 noted-none entry p e = ap (λ b. one (not b)) (eq-eqb (getD entry p 0) noPlace e)

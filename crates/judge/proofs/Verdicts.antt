@@ -22,10 +22,11 @@ use Rattle.tables.specs.declared.tally.Tally.{Tally}
 use Rattle.tables.proofs.Ranges.{bounded}
 use Rattle.tables.proofs.Shelves.{slot-none, slot-kept, shelf-length, shelf-at}
 use Rattle.tables.proofs.Counting.{sum-below-same, held-together}
+use Rattle.weighing.specs.Weighing.{Exact, Numbers, Covered, Back, Right, Lawful, Shelvable}
+use Rattle.weighing.proofs.Shelving.{Shelved}
 use Rattle.judge.specs.Judge.{Judgeable}
-use Rattle.judge.specs.Passes.{Exact, Numbers, Held, Single, Rest, Enterable, Entered, noted, Stackable, Used, Stack, Covered, Back, Right, Lawful, Shelvable, Own, Stamped}
+use Rattle.judge.specs.Passes.{Held, Single, Rest, Enterable, Entered, noted, Stackable, Used, Stack, Own, Stamped}
 use Rattle.judge.proofs.Stacking.{noted-none, noted-some}
-use Rattle.judge.proofs.Shelving.{Shelved}
 
 -- ---- a place is occupied, in the words of the passes and in those of soundness
 

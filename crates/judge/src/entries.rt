@@ -3,7 +3,8 @@ use amounts::Places;
 use tables::fill16;
 ghost use Prim.Native.Nat.{_≤_};
 ghost use lib.ListN.{length};
-ghost use Rattle.judge.specs.Passes.{Exact, Held, Links, Rest, Enterable, Unnoted, Noted};
+ghost use Rattle.weighing.specs.Weighing.{Exact};
+ghost use Rattle.judge.specs.Passes.{Held, Links, Rest, Enterable, Unnoted, Noted};
 
 // Whether a place and its file point at each other.
 pub(crate) fn occupied(

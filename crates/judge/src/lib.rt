@@ -1,20 +1,16 @@
 // The judge of soundness: whether a tally and tables that a caller hands in are sound, whatever words they hold.
 mod entries;
-mod files;
 mod places;
-mod shelf;
 mod stamps;
-mod sums;
-mod totals;
 
 use crate::entries::index_entries;
 use crate::entries::rest_zero;
 use crate::places::stack_unused;
-use crate::shelf::shelf_agrees;
 use crate::stamps::stamps_own;
-use crate::totals::totals_agree;
 use queue::is_ordered;
 use tables::Tally;
+use weighing::shelf_agrees;
+use weighing::totals_agree;
 ghost use Rattle.tables.specs.Tables.{tables};
 ghost use Rattle.tables.specs.Sound.{Verdict};
 ghost use Rattle.judge.specs.Judge.{Judgeable};

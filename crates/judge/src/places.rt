@@ -3,7 +3,8 @@ use crate::entries::occupied;
 use amounts::Places;
 ghost use mathlib.Core.List.{[]};
 ghost use Rattle.tables.specs.Tables.{tables};
-ghost use Rattle.judge.specs.Passes.{Exact, Blank, Legible, Stackable, Stacked};
+ghost use Rattle.weighing.specs.Weighing.{Exact};
+ghost use Rattle.judge.specs.Passes.{Blank, Legible, Stackable, Stacked};
 
 // Whether the record at a place is 0.
 fn is_blank(

@@ -19,7 +19,7 @@ ghost use Rattle.trace.specs.Steps.{RequestAt, counted, Ready, ReadFrom}
 ghost use Rattle.trace.specs.Promise.{Over, ReadPart};
 
 // Whether the value of a request's field is in its range.
-pub(crate) fn in_request(catalogue: u64, field: u64, value: u64) -> bool
+pub fn in_request(catalogue: u64, field: u64, value: u64) -> bool
     ensures { λ r. ⌜ r ≡ inRequest catalogue field value ⌝ }
 {
     if field == 0 {

@@ -4,9 +4,9 @@ use native.Mathlib.Omega.{arith}
 use borrow.Author.Tests.{not-true, not-false}
 use borrow.Author.Needs.{needs}
 use Rattle.tables.proofs.Ranges.{bounded}
+use Rattle.weighing.proofs.Shelving.{shelved-filed, filed-shelved}
+use Rattle.weighing.proofs.Answers.{passed, failed}
 use Rattle.judge.proofs.Verdicts.{sound-numbers, sound-few, sound-single, sound-used, sound-shelved, sound-own, sound-made, desk, unsound, judged, enterable, shelvable, stackable, readable, stamped}
-use Rattle.judge.proofs.Shelving.{shelved-filed, filed-shelved}
-use Rattle.judge.proofs.Answers.{passed, failed}
 use Rattle.judge.proofs.is_sound.Statement.{statement}
 use Rattle.judge.proofs.is_sound.Tie as tie
 

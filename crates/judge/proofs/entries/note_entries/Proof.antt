@@ -3,8 +3,8 @@ use Prim.Native.Nat.{_-_}
 use native.Mathlib.Omega.{arith}
 use lib.ListN.{length}
 use borrow.Author.Needs.{needs, scaled-fits}
+use Rattle.weighing.proofs.Answers.{passed, failed}
 use Rattle.judge.proofs.Entering.{Noting, noting-start, noting-vacant, noting-twice, noting-more, noting-done}
-use Rattle.judge.proofs.Answers.{passed, failed}
 use Rattle.judge.proofs.entries.note_entries.Statement.{statement}
 use Rattle.judge.proofs.entries.note_entries.Tie as tie
 

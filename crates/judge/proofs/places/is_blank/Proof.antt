@@ -2,7 +2,7 @@
 use native.Mathlib.Omega.{arith}
 use borrow.Author.Tests.{eqb-true, eq-eqb}
 use borrow.Author.Needs.{needs}
-use Rattle.judge.proofs.Answers.{answer-no, answer-test}
+use Rattle.weighing.proofs.Answers.{answer-no, answer-test}
 use Rattle.judge.proofs.places.is_blank.Statement.{statement}
 use Rattle.judge.proofs.places.is_blank.Tie as tie
 

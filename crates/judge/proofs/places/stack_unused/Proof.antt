@@ -6,8 +6,8 @@ use native.Mathlib.Omega.{arith}
 use lib.ListN.{length}
 use borrow.Author.Needs.{needs, scaled-fits}
 use Rattle.tables.specs.Tables.{tables}
+use Rattle.weighing.proofs.Answers.{passed, failed}
 use Rattle.judge.proofs.Stacking.{stacking-as, Stacking, stacking-start, stacking-done, stacking-lost, stacking-dirty, stacking-held, stacking-free, room}
-use Rattle.judge.proofs.Answers.{passed, failed}
 use Rattle.judge.proofs.places.stack_unused.Statement.{statement}
 use Rattle.judge.proofs.places.stack_unused.Tie as tie
 

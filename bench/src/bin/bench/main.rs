@@ -1,0 +1,238 @@
+//! Times the library beside the usual way over the same traces: `bench [REQUESTS [RUNS]]`.
+
+mod decode;
+mod usual;
+mod workload;
+
+use std::hint::black_box;
+use std::process::ExitCode;
+use std::time::Instant;
+
+use bench::boundary;
+use bench::model::limits::{MOST_CATALOGUE, MOST_REQUESTS};
+use bench::model::tables::Tables;
+use bench::model::tally::{Settings, TALLY_WORDS};
+
+use usual::Usual;
+use workload::Workload;
+
+const PLACES: [u64; 3] = [64, 512, 4_096];
+const DEFAULT_REQUESTS: u64 = 1_000_000;
+const DEFAULT_RUNS: u64 = 5;
+
+/// Where the tally has its hits.
+const HITS_WORD: usize = 9;
+
+/// The tables of one run, just long enough, and room for its events.
+struct Store {
+    settings: Settings,
+    tally: [u64; TALLY_WORDS],
+    tables: Tables,
+    events: Vec<u32>,
+}
+
+impl Store {
+    fn new(settings: Settings, requests: u64) -> Self {
+        let places = settings.places as usize;
+        Store {
+            settings,
+            tally: [0; TALLY_WORDS],
+            tables: Tables {
+                place: vec![0; settings.catalogue as usize],
+                file: vec![0; places],
+                size: vec![0; places],
+                cost: vec![0; places],
+                freq: vec![0; places],
+                key: vec![0; places],
+                stamp: vec![0; places],
+                queue: vec![0; places],
+            },
+            events: vec![0; 2 * requests as usize + places],
+        }
+    }
+
+    fn fresh(&mut self) {
+        let answer = boundary::fresh(&self.settings, &mut self.tally, self.tables.lend());
+        assert_eq!(answer.number, 0, "a fresh start is refused");
+    }
+
+    /// Carries on and gives the count of events.
+    fn carry_on(&mut self, part: &[u8]) -> usize {
+        let answer = boundary::carry_on(
+            self.settings.unit,
+            &mut self.tally,
+            self.tables.lend(),
+            part,
+            &mut self.events,
+        );
+        assert_eq!(answer.number, 0, "carrying on is refused");
+        answer.value as usize
+    }
+}
+
+/// Medians of one trace under one policy and number of places, in nanoseconds a request.
+struct Line {
+    workload: &'static str,
+    policy: u64,
+    places: u64,
+    hits: f64,
+    decode: f64,
+    library: f64,
+    usual: f64,
+}
+
+fn main() -> ExitCode {
+    let mut arguments = std::env::args().skip(1).map(|text| text.parse::<u64>());
+    let requests = arguments.next().unwrap_or(Ok(DEFAULT_REQUESTS));
+    let runs = arguments.next().unwrap_or(Ok(DEFAULT_RUNS));
+    let (Ok(requests @ 1..=MOST_REQUESTS), Ok(runs @ 1..)) = (requests, runs) else {
+        eprintln!("bench [REQUESTS [RUNS]]");
+        return ExitCode::from(2);
+    };
+    println!("{requests} requests over {MOST_CATALOGUE} files, medians of {runs} runs");
+    let workloads = workload::all(requests);
+    match time_all(&workloads, runs) {
+        Ok(lines) => print_growth(&lines),
+        Err(difference) => {
+            println!("{difference}");
+            return ExitCode::FAILURE;
+        }
+    }
+    print_calls(&workloads[0], runs);
+    ExitCode::SUCCESS
+}
+
+fn time_all(workloads: &[Workload], runs: u64) -> Result<Vec<Line>, String> {
+    println!("library: tables fresh, event list not cleared; usual: its own memory each run");
+    println!("nanoseconds a request; in the last column the decoding is taken from both");
+    println!(
+        "workload    policy places  hits  decode  library   usual  library/usual  less decode"
+    );
+    let mut lines = Vec::new();
+    for workload in workloads {
+        for policy in [1, 2] {
+            for places in PLACES {
+                let line = timed(settings(workload, policy, places), workload, runs)?;
+                print_line(&line);
+                lines.push(line);
+            }
+        }
+    }
+    println!("events of both ways agree in every run");
+    Ok(lines)
+}
+
+fn settings(workload: &Workload, policy: u64, places: u64) -> Settings {
+    Settings {
+        unit: 7,
+        policy,
+        capacity: workload.capacity(places),
+        places,
+        catalogue: MOST_CATALOGUE,
+    }
+}
+
+fn timed(settings: Settings, workload: &Workload, runs: u64) -> Result<Line, String> {
+    let mut store = Store::new(settings, workload.requests);
+    let [mut library, mut usual, mut decode] = [const { Vec::new() }; 3];
+    for _ in 0..runs {
+        store.fresh();
+        let start = Instant::now();
+        let count = store.carry_on(&workload.part);
+        library.push(start.elapsed().as_nanos());
+
+        let start = Instant::now();
+        let mut other = Usual::new(settings, workload.requests as usize);
+        decode::requests(&workload.part).for_each(|request| other.serve(request));
+        usual.push(start.elapsed().as_nanos());
+
+        let start = Instant::now();
+        for request in decode::requests(&workload.part) {
+            black_box(request);
+        }
+        decode.push(start.elapsed().as_nanos());
+
+        let sums = [checksum(&store.events[..count]), checksum(&other.events)];
+        if sums[0] != sums[1] {
+            let Settings { policy, places, .. } = settings;
+            return Err(format!(
+                "{} policy {policy} places {places}: events differ, checksums {sums:x?}",
+                workload.name
+            ));
+        }
+    }
+    let each = |times| median(times) / workload.requests as f64;
+    Ok(Line {
+        workload: workload.name,
+        policy: settings.policy,
+        places: settings.places,
+        hits: store.tally[HITS_WORD] as f64 / workload.requests as f64,
+        decode: each(decode),
+        library: each(library),
+        usual: each(usual),
+    })
+}
+
+fn median(mut times: Vec<u128>) -> f64 {
+    times.sort_unstable();
+    times[times.len() / 2] as f64
+}
+
+/// A sum over the events that depends on their order.
+fn checksum(events: &[u32]) -> u64 {
+    events.iter().fold(0xcbf2_9ce4_8422_2325, |sum, &event| {
+        (sum ^ u64::from(event)).wrapping_mul(0x0100_0000_01b3)
+    })
+}
+
+fn print_line(line: &Line) {
+    println!(
+        "{:<11} {:>6} {:>6} {:>4.0}% {:>7.1} {:>8.1} {:>7.1} {:>14.2} {:>12.2}",
+        line.workload,
+        line.policy,
+        line.places,
+        100.0 * line.hits,
+        line.decode,
+        line.library,
+        line.usual,
+        line.library / line.usual,
+        (line.library - line.decode) / (line.usual - line.decode)
+    );
+}
+
+/// How the time of a request grows from the fewest places to the most.
+fn print_growth(lines: &[Line]) {
+    println!("\ngrowth from {} to {} places", PLACES[0], PLACES[2]);
+    println!("workload    policy  library   usual");
+    for group in lines.chunks(PLACES.len()) {
+        let (few, many) = (&group[0], &group[PLACES.len() - 1]);
+        println!(
+            "{:<11} {:>6} {:>8.2} {:>7.2}",
+            few.workload,
+            few.policy,
+            many.library / few.library,
+            many.usual / few.usual
+        );
+    }
+}
+
+/// The cost of calls that serve nothing: a fresh start, and the check of full tables.
+fn print_calls(workload: &Workload, runs: u64) {
+    println!("\na call that serves nothing, microseconds");
+    println!("places  fresh start  soundness check");
+    for places in PLACES {
+        let mut store = Store::new(settings(workload, 2, places), workload.requests);
+        let [mut fresh, mut check] = [const { Vec::new() }; 2];
+        for _ in 0..runs {
+            let start = Instant::now();
+            store.fresh();
+            fresh.push(start.elapsed().as_nanos());
+            store.carry_on(&workload.part);
+            let start = Instant::now();
+            store.carry_on(&[]);
+            check.push(start.elapsed().as_nanos());
+        }
+        let [fresh, check] = [fresh, check].map(|times| median(times) / 1_000.0);
+        println!("{places:>6} {fresh:>12.1} {check:>16.1}");
+    }
+}

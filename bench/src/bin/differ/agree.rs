@@ -1,0 +1,202 @@
+//! One call of the library beside the model's: the answer and every lent entry must agree.
+
+use std::fmt::Debug;
+
+use bench::boundary;
+use bench::model::red_card::{Answer, Refusal};
+use bench::model::sheet::sheet_into;
+use bench::model::soundness::sound;
+use bench::model::tables::{self, Carried, Tables};
+use bench::model::tally::{Settings, Tally, TALLY_WORDS};
+use bench::model::trace::{self, Lists};
+
+/// The tally and the tables that a caller lends.
+#[derive(Clone)]
+pub struct Lent {
+    pub tally: Vec<u64>,
+    pub tables: Tables,
+}
+
+impl Lent {
+    pub fn settings(&self) -> Settings {
+        self.read_tally().settings
+    }
+
+    pub fn read_tally(&self) -> Tally {
+        Tally::read(&self.tally).expect("the tally is long enough")
+    }
+
+    pub fn set_tally(&mut self, tally: &Tally) {
+        self.tally[..TALLY_WORDS].copy_from_slice(&tally.words());
+    }
+}
+
+pub type Agreement = Result<Answer, String>;
+
+pub fn fresh(settings: &Settings, lent: &mut Lent) -> Agreement {
+    let mut expected = lent.clone();
+    let result = tables::fresh(settings, &mut expected.tally, &mut expected.tables);
+    let given = boundary::fresh(settings, &mut lent.tally, lent.tables.lend());
+    same_answer(given, result.map(|()| 0))?;
+    same_lent(lent, &expected)?;
+    Ok(given)
+}
+
+pub fn carry_on(unit: u64, lent: &mut Lent, part: &[u8], events: &mut [u32]) -> Agreement {
+    let before = lent.clone();
+    let mut expected = events.to_vec();
+    let result = tables::carry_on(unit, &before.tally, &before.tables, part, events.len());
+    let given = boundary::carry_on(unit, &mut lent.tally, lent.tables.lend(), part, events);
+    let count = result.as_ref().map(|carried| carried.events.len());
+    same_answer(given, count.map_err(|refusal| *refusal))?;
+    match result {
+        Err(_) => same_lent(lent, &before)?,
+        Ok(carried) => {
+            expected[..carried.events.len()].copy_from_slice(&carried.events);
+            carried_alike(lent, &before, &carried)?;
+        }
+    }
+    same_list("events", events, &expected)?;
+    Ok(given)
+}
+
+/// The tally word by word, the shelf file by file, and nothing written beyond what is needed.
+fn carried_alike(lent: &Lent, before: &Lent, carried: &Carried) -> Result<(), String> {
+    let mut tally = before.tally.clone();
+    tally[..TALLY_WORDS].copy_from_slice(&carried.run.tally.words());
+    same_list("tally", &lent.tally, &tally)?;
+    let Settings {
+        places, catalogue, ..
+    } = carried.run.tally.settings;
+    same_beyond(
+        &lent.tables,
+        &before.tables,
+        catalogue as usize,
+        places as usize,
+    )?;
+    if !sound(&carried.run.tally, &lent.tables) {
+        return Err("the tables are left unsound".into());
+    }
+    same_list("shelf", &lent.tables.shelf(catalogue), &carried.run.kept)
+}
+
+fn same_beyond(
+    given: &Tables,
+    before: &Tables,
+    catalogue: usize,
+    places: usize,
+) -> Result<(), String> {
+    same_list(
+        "place beyond",
+        &given.place[catalogue..],
+        &before.place[catalogue..],
+    )?;
+    same_list("file beyond", &given.file[places..], &before.file[places..])?;
+    same_list("size beyond", &given.size[places..], &before.size[places..])?;
+    same_list("cost beyond", &given.cost[places..], &before.cost[places..])?;
+    same_list("freq beyond", &given.freq[places..], &before.freq[places..])?;
+    same_list("key beyond", &given.key[places..], &before.key[places..])?;
+    same_list(
+        "stamp beyond",
+        &given.stamp[places..],
+        &before.stamp[places..],
+    )?;
+    same_list(
+        "queue beyond",
+        &given.queue[places..],
+        &before.queue[places..],
+    )
+}
+
+pub fn read_file(bytes: &[u8], settings: &mut [u64], lists: &mut Lists) -> Agreement {
+    let mut expected = (settings.to_vec(), lists.clone());
+    let result = trace::read_file(bytes, &mut expected.0, &mut expected.1);
+    let given = boundary::read_file(bytes, settings, lists.lend());
+    same_answer(given, result)?;
+    same_list("settings", settings, &expected.0)?;
+    same_lists(lists, &expected.1)?;
+    Ok(given)
+}
+
+pub fn read_part(catalogue: u64, bytes: &[u8], lists: &mut Lists) -> Agreement {
+    let mut expected = lists.clone();
+    let result = trace::read_part(catalogue, bytes, &mut expected);
+    let given = boundary::read_part(catalogue, bytes, lists.lend());
+    same_answer(given, result)?;
+    same_lists(lists, &expected)?;
+    Ok(given)
+}
+
+pub fn write_file(settings: &Settings, lists: &Lists, out: &mut [u8]) -> Agreement {
+    let mut expected = out.to_vec();
+    let result = trace::write_file(settings, lists, &mut expected);
+    let given = boundary::write_file(settings, &lists.files, &lists.sizes, &lists.costs, out);
+    same_answer(given, result)?;
+    same_list("out", out, &expected)?;
+    Ok(given)
+}
+
+pub fn write_part(catalogue: u64, lists: &Lists, out: &mut [u8]) -> Agreement {
+    let mut expected = out.to_vec();
+    let result = trace::write_part(catalogue, lists, &mut expected);
+    let given = boundary::write_part(catalogue, &lists.files, &lists.sizes, &lists.costs, out);
+    same_answer(given, result)?;
+    same_list("out", out, &expected)?;
+    Ok(given)
+}
+
+pub fn sheet(trace: &[u8], out: &mut [u8]) -> Agreement {
+    let mut expected = out.to_vec();
+    let result = sheet_into(trace, &mut expected);
+    let given = boundary::sheet(trace, out);
+    same_answer(given, result)?;
+    same_list("sheet", out, &expected)?;
+    Ok(given)
+}
+
+/// Checks the number itself, where a case knows which one is due.
+pub fn due(given: Answer, due: Answer) -> Result<(), String> {
+    same("the answer due", &given, &due)
+}
+
+fn same_answer(given: Answer, expected: Result<usize, Refusal>) -> Result<(), String> {
+    let expected = expected.map_or_else(Answer::refused, Answer::done);
+    same("answer", &given, &expected)
+}
+
+fn same_lent(given: &Lent, expected: &Lent) -> Result<(), String> {
+    same_list("tally", &given.tally, &expected.tally)?;
+    same_list("place", &given.tables.place, &expected.tables.place)?;
+    same_list("file", &given.tables.file, &expected.tables.file)?;
+    same_list("size", &given.tables.size, &expected.tables.size)?;
+    same_list("cost", &given.tables.cost, &expected.tables.cost)?;
+    same_list("freq", &given.tables.freq, &expected.tables.freq)?;
+    same_list("key", &given.tables.key, &expected.tables.key)?;
+    same_list("stamp", &given.tables.stamp, &expected.tables.stamp)?;
+    same_list("queue", &given.tables.queue, &expected.tables.queue)
+}
+
+fn same_lists(given: &Lists, expected: &Lists) -> Result<(), String> {
+    same_list("files", &given.files, &expected.files)?;
+    same_list("sizes", &given.sizes, &expected.sizes)?;
+    same_list("costs", &given.costs, &expected.costs)
+}
+
+pub fn same_list<T: PartialEq + Debug>(
+    what: &str,
+    given: &[T],
+    expected: &[T],
+) -> Result<(), String> {
+    same(&format!("length of {what}"), &given.len(), &expected.len())?;
+    for (index, (given, expected)) in given.iter().zip(expected).enumerate() {
+        same(&format!("{what} {index}"), given, expected)?;
+    }
+    Ok(())
+}
+
+fn same<T: PartialEq + Debug>(what: &str, given: &T, expected: &T) -> Result<(), String> {
+    if given == expected {
+        return Ok(());
+    }
+    Err(format!("{what} is {given:?}, the model has {expected:?}"))
+}

@@ -1,0 +1,161 @@
+//! Random settings, requests and lent tables, small enough that capacity and places bind.
+
+use bench::model::limits::{
+    MOST_CAPACITY, MOST_CATALOGUE, MOST_COST, MOST_PLACES, MOST_REQUESTS, MOST_SIZE, MOST_UNIT,
+};
+use bench::model::tables::Tables;
+use bench::model::tally::{Settings, TALLY_WORDS};
+use bench::model::trace::{write_number, Lists, Request};
+use bench::random::Random;
+
+use crate::agree::{self, Lent};
+
+pub fn settings(random: &mut Random) -> Settings {
+    let few_places = random.between(1, 12);
+    let few_files = random.between(1, 24);
+    let capacities = [1, 40, 100, 300, 1_000, 100_000, 40_000_000, MOST_CAPACITY];
+    Settings {
+        unit: random.word() % (MOST_UNIT + 1),
+        policy: random.between(1, 2),
+        capacity: random.pick(&capacities),
+        places: random.pick(&[1, 2, few_places, few_places, few_places, 40]),
+        catalogue: random.pick(&[few_files, few_files, few_files, 1, 300]),
+    }
+}
+
+/// Settings at the ends of their ranges; the tables they need are long.
+pub fn largest(random: &mut Random) -> Settings {
+    Settings {
+        unit: MOST_UNIT,
+        policy: random.between(1, 2),
+        capacity: MOST_CAPACITY,
+        places: MOST_PLACES,
+        catalogue: MOST_CATALOGUE,
+    }
+}
+
+pub fn request(random: &mut Random, settings: &Settings) -> Request {
+    let near = random.between(1, 200);
+    let capacity = settings.capacity.min(MOST_SIZE);
+    let above = (settings.capacity + 1).min(MOST_SIZE);
+    let any = random.between(1, MOST_SIZE);
+    let sizes = [1, 3, 7, 16, 32, 64, near, near, near, capacity, above, any];
+    let any_cost = random.below(MOST_COST + 1);
+    Request {
+        file: file(random, settings.catalogue),
+        size: random.pick(&sizes),
+        cost: random.pick(&[0, 1, 1, 2, 5, any_cost, MOST_COST]),
+    }
+}
+
+/// A file number, more often a low one, so that some are asked for again and again.
+fn file(random: &mut Random, catalogue: u64) -> u64 {
+    let most = random.between(1, catalogue);
+    random.below(most)
+}
+
+pub fn requests(random: &mut Random, settings: &Settings, most: u64) -> Vec<Request> {
+    let count = random.below(most + 1);
+    (0..count).map(|_| request(random, settings)).collect()
+}
+
+pub fn part_of(requests: &[Request]) -> Vec<u8> {
+    let mut bytes = Vec::new();
+    for Request { file, size, cost } in requests {
+        for number in [file, size, cost] {
+            write_number(*number, &mut bytes);
+        }
+    }
+    bytes
+}
+
+pub fn file_of(settings: &Settings, requests: &[Request]) -> Vec<u8> {
+    let mut bytes = Vec::new();
+    for number in settings.words() {
+        write_number(number, &mut bytes);
+    }
+    bytes.extend(part_of(requests));
+    bytes
+}
+
+pub fn lists_of(requests: &[Request]) -> Lists {
+    let mut lists = Lists::default();
+    for request in requests {
+        lists.push(*request);
+    }
+    lists
+}
+
+/// A list with old contents, at times a few entries longer than it need be.
+pub fn old_list<T>(random: &mut Random, needed: usize, entry: fn(u64) -> T) -> Vec<T> {
+    let length = needed + random.index(4);
+    exact_list(random, length, entry)
+}
+
+pub fn exact_list<T>(random: &mut Random, length: usize, entry: fn(u64) -> T) -> Vec<T> {
+    (0..length).map(|_| entry(random.word())).collect()
+}
+
+pub fn old_lists(random: &mut Random, needed: usize) -> Lists {
+    Lists {
+        files: old_list(random, needed, |word| word as u16),
+        sizes: old_list(random, needed, |word| word as u32),
+        costs: old_list(random, needed, |word| word as u16),
+    }
+}
+
+/// A tally and tables long enough for the settings, with any old contents.
+pub fn old_lent(random: &mut Random, settings: &Settings) -> Lent {
+    let places = settings.places as usize;
+    Lent {
+        tally: old_list(random, TALLY_WORDS, |word| word),
+        tables: Tables {
+            place: old_list(random, settings.catalogue as usize, |word| word as u16),
+            file: old_list(random, places, |word| word as u16),
+            size: old_list(random, places, |word| word as u32),
+            cost: old_list(random, places, |word| word as u16),
+            freq: old_list(random, places, |word| word as u32),
+            key: old_list(random, places, |word| word),
+            stamp: old_list(random, places, |word| word),
+            queue: old_list(random, places, |word| word as u16),
+        },
+    }
+}
+
+/// Tables after a fresh start.
+pub fn fresh_lent(random: &mut Random, settings: &Settings) -> Result<Lent, String> {
+    let mut lent = old_lent(random, settings);
+    agree::fresh(settings, &mut lent)?;
+    Ok(lent)
+}
+
+/// Tables in the midst of a run.
+pub fn running_lent(random: &mut Random) -> Result<Lent, String> {
+    let settings = settings(random);
+    let mut lent = fresh_lent(random, &settings)?;
+    let requests = requests(random, &settings, 60);
+    let mut events = events_for(random, &lent, requests.len());
+    agree::carry_on(settings.unit, &mut lent, &part_of(&requests), &mut events)?;
+    Ok(lent)
+}
+
+/// An event list with room for so many new requests.
+pub fn events_for(random: &mut Random, lent: &Lent, requests: usize) -> Vec<u32> {
+    let needed = 2 * requests + lent.read_tally().files_kept as usize;
+    old_list(random, needed, |word| word as u32)
+}
+
+/// Brings the requests near the limit by hits that soundness allows, leaving room for a few.
+pub fn near_the_limit(random: &mut Random, lent: &mut Lent, left: u64) {
+    let mut tally = lent.read_tally();
+    let added = MOST_REQUESTS - left - tally.requests;
+    let bytes = added * random.pick(&[1, 2, 1_000, MOST_SIZE]);
+    let cost = added * random.pick(&[1, 2, 1_000, MOST_COST]);
+    tally.requests += added;
+    tally.hits += added;
+    tally.hit_bytes += bytes;
+    tally.bytes_asked += bytes;
+    tally.hit_cost += cost;
+    tally.cost_asked += cost;
+    lent.set_tally(&tally);
+}

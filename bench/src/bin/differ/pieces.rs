@@ -1,0 +1,154 @@
+//! The bench pieces that a program runs, and the samples, over the boundary.
+
+use bench::model::limits::MOST_REQUESTS;
+use bench::model::red_card::{Answer, Refusal};
+use bench::model::sheet::sheet;
+use bench::model::tally::Settings;
+use bench::model::trace::Request;
+use bench::random::Random;
+
+use crate::agree::{self, Lent};
+use crate::runs::carried;
+use crate::{make, Verdict};
+
+const SETTINGS: Settings = Settings {
+    unit: 7,
+    policy: 1,
+    capacity: 100,
+    places: 8,
+    catalogue: 16,
+};
+
+const EXAMPLE: [[u64; 3]; 6] = [
+    [1, 64, 4],
+    [2, 32, 1],
+    [1, 64, 4],
+    [3, 16, 1],
+    [2, 32, 1],
+    [4, 128, 1],
+];
+
+const SAMPLES: [&[u8]; 2] = [
+    include_bytes!("../../../../samples/studio-7.trace"),
+    include_bytes!("../../../../samples/class-day.trace"),
+];
+
+fn requests_of(fields: &[[u64; 3]]) -> Vec<Request> {
+    let request = |&[file, size, cost]: &[u64; 3]| Request { file, size, cost };
+    fields.iter().map(request).collect()
+}
+
+/// Replays the requests afresh and checks the events by kind and file.
+fn piece(
+    random: &mut Random,
+    settings: Settings,
+    fields: &[[u64; 3]],
+    events: &[(u32, u32)],
+) -> Result<(Lent, Answer), String> {
+    let requests = requests_of(fields);
+    let mut lent = make::fresh_lent(random, &settings)?;
+    let mut list = make::events_for(random, &lent, requests.len());
+    let part = make::part_of(&requests);
+    let answer = agree::carry_on(settings.unit, &mut lent, &part, &mut list)?;
+    let expected: Vec<u32> = events
+        .iter()
+        .map(|(kind, file)| kind * 32_768 + file)
+        .collect();
+    agree::same_list(
+        "events of the piece",
+        &list[..answer.value as usize],
+        &expected,
+    )?;
+    Ok((lent, answer))
+}
+
+fn keys(lent: &Lent) -> Vec<(u64, u64)> {
+    let shelf = lent.tables.shelf(lent.settings().catalogue);
+    shelf.iter().map(|kept| (kept.file, kept.key)).collect()
+}
+
+pub fn all(random: &mut Random) -> Verdict {
+    let mut answers = Vec::new();
+    let events = [
+        (2, 1),
+        (2, 2),
+        (1, 1),
+        (5, 2),
+        (2, 3),
+        (5, 1),
+        (2, 2),
+        (3, 4),
+    ];
+    let (lent, answer) = piece(random, SETTINGS, &EXAMPLE, &events)?;
+    agree::same_list("keys", &keys(&lent), &[(2, 1_572_864), (3, 1_572_864)])?;
+    answers.push(answer);
+
+    let second = Settings {
+        policy: 2,
+        ..SETTINGS
+    };
+    let events = [
+        (2, 1),
+        (2, 2),
+        (1, 1),
+        (5, 2),
+        (2, 3),
+        (5, 3),
+        (2, 2),
+        (3, 4),
+    ];
+    let (lent, answer) = piece(random, second, &EXAMPLE, &events)?;
+    agree::same_list("keys", &keys(&lent), &[(1, 2_097_152), (2, 1_048_576)])?;
+    answers.push(answer);
+
+    let fields = [[1, 100, 1], [2, 101, 1]];
+    answers.push(piece(random, SETTINGS, &fields, &[(2, 1), (3, 2)])?.1);
+
+    let one_place = Settings {
+        places: 1,
+        ..SETTINGS
+    };
+    let fields = [[1, 5, 1], [2, 5, 1], [3, 5, 1]];
+    let events = [(2, 1), (5, 1), (2, 2), (5, 2), (2, 3)];
+    answers.push(piece(random, one_place, &fields, &events)?.1);
+
+    for sample in SAMPLES {
+        let mut out = vec![0; sheet(sample).len()];
+        answers.push(agree::sheet(sample, &mut out)?);
+    }
+    answers.extend(run_limit(random)?);
+    answers.extend(more_than_a_run()?);
+    Ok(answers)
+}
+
+/// As many requests as a run may have pass, and one more is refused.
+fn run_limit(random: &mut Random) -> Verdict {
+    let mut lent = make::fresh_lent(random, &SETTINGS)?;
+    let requests: Vec<Request> = (0..MOST_REQUESTS)
+        .map(|_| make::request(random, &SETTINGS))
+        .collect();
+    let all = carried(random, &mut lent, &requests)?;
+    let one_more = carried(random, &mut lent, &requests[..1])?;
+    agree::due(one_more, Answer::refused(Refusal::RunLimit))?;
+    Ok(vec![all, one_more])
+}
+
+/// Reader and writer take more requests than a run may have.
+fn more_than_a_run() -> Verdict {
+    let requests = vec![
+        Request {
+            file: 1,
+            size: 5,
+            cost: 1
+        };
+        MOST_REQUESTS as usize + 1
+    ];
+    let lists = make::lists_of(&requests);
+    let mut part = vec![0; 3 * requests.len()];
+    let written = agree::write_part(2, &lists, &mut part)?;
+    agree::due(written, Answer::done(part.len()))?;
+    let mut read_lists = make::lists_of(&requests);
+    let read = agree::read_part(2, &part, &mut read_lists)?;
+    agree::due(read, Answer::done(requests.len()))?;
+    Ok(vec![written, read])
+}

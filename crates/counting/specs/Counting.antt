@@ -1,0 +1,118 @@
+-- The tally with one request more (document 01, "Tables and the tally"). Assumes nothing.
+use Prim.Native.Nat.{ℕ, _+_, _<_}
+use Rattle.amounts.specs.Limits.{requestsMost}
+use Rattle.amounts.specs.Worth.{Valued}
+use Rattle.method.specs.Method as method
+use Rattle.method.specs.Shelf.{bytes, files}
+use Rattle.method.specs.Totals.{Totals, counted, Agreed}
+use Rattle.tables.specs.Tally.{totalsOf}
+use Rattle.tables.specs.declared.tally.Tally.{Tally}
+
+-- document 01, "Tables and the tally": the tally that stands for a state and totals
+abbrev pub tallied : Tally → method.State → Totals → Tally
+tallied a st y =
+    record {
+      settings = a .settings;
+      inflation = record { 0 = st .inflation };
+      «bytes_kept» = record { 0 = bytes (st .shelf) };
+      «files_kept» = files (st .shelf);
+      requests = y .requests;
+      hits = y .hits;
+      admitted = y .admitted;
+      passed = y .passed;
+      evicted = y .evicted;
+      «bytes_asked» = record { 0 = y .bytes };
+      «hit_bytes» = record { 0 = y .hitBytes };
+      «cost_asked» = record { 0 = y .cost };
+      «hit_cost» = record { 0 = y .hitCost };
+    }
+
+-- document 01, "Tables and the tally": the tally after a request
+abbrev pub after : Tally → method.Served method.State → Tally
+after a x = tallied a (x .state) (counted (totalsOf a) (x .reply))
+
+-- document 01, "Tables and the tally": the tally with the totals y, and with inflation, bytes and files kept
+abbrev pub withTotals : Tally → ℕ → ℕ → ℕ → Totals → Tally
+withTotals a l b n y =
+    record {
+      settings = a .settings;
+      inflation = record { 0 = l };
+      «bytes_kept» = record { 0 = b };
+      «files_kept» = n;
+      requests = y .requests;
+      hits = y .hits;
+      admitted = y .admitted;
+      passed = y .passed;
+      evicted = y .evicted;
+      «bytes_asked» = record { 0 = y .bytes };
+      «hit_bytes» = record { 0 = y .hitBytes };
+      «cost_asked» = record { 0 = y .cost };
+      «hit_cost» = record { 0 = y .hitCost };
+    }
+
+-- document 01, "Tables and the tally": a hit counts its bytes and its cost twice, as asked and as hit
+abbrev pub hitTotals : Totals → ℕ → ℕ → Totals
+hitTotals y size cost =
+    record {
+      requests = y .requests + 1;
+      hits = y .hits + 1;
+      admitted = y .admitted;
+      passed = y .passed;
+      evicted = y .evicted;
+      bytes = y .bytes + size;
+      hitBytes = y .hitBytes + size;
+      cost = y .cost + cost;
+      hitCost = y .hitCost + cost;
+    }
+
+-- document 01, "Tables and the tally": a pass counts only what was asked
+abbrev pub passTotals : Totals → ℕ → ℕ → Totals
+passTotals y size cost =
+    record {
+      requests = y .requests + 1;
+      hits = y .hits;
+      admitted = y .admitted;
+      passed = y .passed + 1;
+      evicted = y .evicted;
+      bytes = y .bytes + size;
+      hitBytes = y .hitBytes;
+      cost = y .cost + cost;
+      hitCost = y .hitCost;
+    }
+
+-- document 01, "Tables and the tally": an admission counts what was asked, with so many evicted in all
+abbrev pub admittedTotals : Totals → ℕ → ℕ → ℕ → Totals
+admittedTotals y size cost evicted =
+    record {
+      requests = y .requests + 1;
+      hits = y .hits;
+      admitted = y .admitted + 1;
+      passed = y .passed;
+      evicted = evicted;
+      bytes = y .bytes + size;
+      hitBytes = y .hitBytes;
+      cost = y .cost + cost;
+      hitCost = y .hitCost;
+    }
+
+-- document 01, "Tables and the tally": an admission, with so many evicted for it
+abbrev pub admitTotals : Totals → ℕ → ℕ → ℕ → Totals
+admitTotals y size cost gone = admittedTotals y size cost (y .evicted + gone)
+
+-- document 01, "Tables and the tally": a hit more, with what is kept as it was
+abbrev pub hitTally : Tally → ℕ → ℕ → Tally
+hitTally a size cost = withTotals a (a .inflation .0) (a .«bytes_kept» .0) (a .«files_kept») (hitTotals (totalsOf a) size cost)
+
+-- document 01, "Tables and the tally": a pass more, with what is kept as it was
+abbrev pub passTally : Tally → ℕ → ℕ → Tally
+passTally a size cost = withTotals a (a .inflation .0) (a .«bytes_kept» .0) (a .«files_kept») (passTotals (totalsOf a) size cost)
+
+-- document 01, "Tables and the tally": an admission more, with what is kept and what was evicted as it was
+abbrev pub admitTally : Tally → ℕ → ℕ → Tally
+admitTally a size cost = withTotals a (a .inflation .0) (a .«bytes_kept» .0) (a .«files_kept») (admittedTotals (totalsOf a) size cost (a .evicted))
+
+-- document 01, "Tables and the tally": one request more can be counted
+pub record Countable (a : Tally) (size cost : ℕ) : Type 0 where
+  pub few : a .requests < requestsMost
+  pub agreed : Agreed (a .«files_kept») (totalsOf a)
+  pub valued : Valued size cost

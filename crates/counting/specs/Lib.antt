@@ -1,0 +1,2 @@
+-- The tally with one request more (Counting).
+pub mod Counting

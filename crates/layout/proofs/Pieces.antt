@@ -1,0 +1,48 @@
+-- Sheets of document 01, computed from the definitions. Assumes nothing.
+use Prim.Native.Nat.{ℕ}
+use mathlib.Core.Path.{_≡_, refl}
+use mathlib.Core.List.{List, [], _∷_, _++_}
+use Rattle.amounts.specs.Limits.{oneTo}
+use Rattle.amounts.specs.Worth.{worthOf, productOf, packets, inForce}
+use Rattle.amounts.specs.Order.{lowerOf}
+use Rattle.method.specs.Shelf.{sum, lowest}
+use Rattle.method.specs.Method.{run, step, clear, admit}
+use Rattle.method.specs.Events.{events}
+use Rattle.method.specs.Totals.{totals}
+use Rattle.trace.specs.Reading.{readOf, settingsOf}
+use Rattle.trace.proofs.Pieces.{sheet}
+use Rattle.lines.specs.Decimal.{decimal}
+use Rattle.lines.specs.Words.{ascii}
+use Rattle.layout.specs.Sheet.{sheetOf}
+use Rattle.lines.specs.Lines.{item, kindWord, page}
+
+-- document 01, "The sheet": what is printed for the hex bytes
+abbrev printed : List ℕ
+printed =
+    ascii "unit 7\n"
+    ++ ascii "admit 1\n"
+    ++ ascii "admit 2\n"
+    ++ ascii "hit 1\n"
+    ++ ascii "evict 2\n"
+    ++ ascii "admit 3\n"
+    ++ ascii "evict 1\n"
+    ++ ascii "admit 2\n"
+    ++ ascii "big 4\n"
+    ++ ascii "requests 6 hits 1 admitted 4 passed 1 evicted 2\n"
+    ++ ascii "bytes 336 hitbytes 64\n"
+    ++ ascii "cost 12 hitcost 4\n"
+    ++ ascii "L 1048576 used 48 files 2\n"
+
+pub example : sheetOf sheet ≡ printed
+unfolding worthOf productOf packets inForce lowerOf oneTo run events totals step admit clear lowest sum readOf settingsOf decimal item kindWord page sheetOf
+example = refl
+
+-- a needless 0 in the unit; no bytes; policy 3 before 513 places; 513 places before a file out of range; a file out of range; a size of 0 before a number cut short
+pub refusals : (sheetOf (0x80 ∷ 0x00 ∷ []) ≡ ascii "refused 3\n")
+    × (sheetOf [] ≡ ascii "refused 3\n")
+    × (sheetOf (7 ∷ 3 ∷ 100 ∷ 0x81 ∷ 0x04 ∷ 16 ∷ []) ≡ ascii "refused 1\n")
+    × (sheetOf (7 ∷ 1 ∷ 100 ∷ 0x81 ∷ 0x04 ∷ 16 ∷ 99 ∷ []) ≡ ascii "refused 2\n")
+    × (sheetOf (7 ∷ 1 ∷ 100 ∷ 8 ∷ 16 ∷ 16 ∷ 1 ∷ 1 ∷ []) ≡ ascii "refused 4\n")
+    × (sheetOf (7 ∷ 1 ∷ 100 ∷ 8 ∷ 16 ∷ 1 ∷ 0 ∷ 0x80 ∷ []) ≡ ascii "refused 4\n")
+unfolding oneTo readOf settingsOf decimal item sheetOf
+refusals = (refl, refl, refl, refl, refl, refl)

@@ -1,0 +1,63 @@
+// A run from a fresh start, over tables of the call's own.
+use amounts::Settings;
+use replay::Carried;
+use replay::carry_on;
+use tables::Started;
+use tables::Tally;
+use tables::fresh;
+use trace::Answer;
+ghost use Rattle.layout.specs.Steps.{Held, Ran};
+
+// The program's own tables.
+pub(crate) const OWN_PLACES: u64 = 512;
+
+pub(crate) const OWN_CATALOGUE: u64 = 4096;
+
+// The run over the requests of a part: the answer with the tally, and the events in a list.
+pub(crate) fn run_into(settings: Settings, part: &[u8], events: &mut [u32]) -> Carried
+    requires { ⌜ Held settings (now part) (now events) ⌝ }
+    ensures { λ r. ⌜ Ran settings (now (part .entry)) (now (events .entry)) r (now (events .exit)) ⌝ }
+{
+    let mut place = [0u16; OWN_CATALOGUE as usize];
+    let mut file = [0u16; OWN_PLACES as usize];
+    let mut size = [0u32; OWN_PLACES as usize];
+    let mut cost = [0u16; OWN_PLACES as usize];
+    let mut freq = [0u32; OWN_PLACES as usize];
+    let mut key = [0u64; OWN_PLACES as usize];
+    let mut stamp = [0u64; OWN_PLACES as usize];
+    let mut queue = [0u16; OWN_PLACES as usize];
+    let started = fresh(
+        settings,
+        &mut place,
+        &mut file,
+        &mut size,
+        &mut cost,
+        &mut freq,
+        &mut key,
+        &mut stamp,
+        &mut queue,
+    );
+    match started {
+        Started::Refused(x) => Carried {
+            answer: Answer::Refused(x),
+            tally: Tally::new(settings),
+        },
+        Started::Done(a) => {
+            let unit = settings.unit;
+            carry_on(
+                unit,
+                a,
+                &mut place,
+                &mut file,
+                &mut size,
+                &mut cost,
+                &mut freq,
+                &mut key,
+                &mut stamp,
+                &mut queue,
+                part,
+                events,
+            )
+        }
+    }
+}

@@ -1,0 +1,56 @@
+-- `lines::page::put_events` meets its contract: at the loop's head the lines that are left make of the list what all of them make of the list at entry. Assumes nothing.
+use Prim.Native.Nat.{_-_}
+use borrow.Author.Needs.{needs}
+use native.Mathlib.Omega.{arith}
+use Rattle.lines.proofs.Listing.{Listing, list-first, list-room, list-more, list-end}
+use Rattle.lines.proofs.page.put_events.Statement.{statement}
+use Rattle.lines.proofs.page.put_events.Tie as tie
+
+abbrev Inv-loop : tie.InvT-loop
+Inv-loop events count out₀ from at₀ i₀ out at i = Listing events count from out₀ i at out
+
+abbrev μ-loop : tie.MeasureT-loop
+μ-loop events count out₀ from at₀ i₀ out at i = count - i
+
+loop-holds : tie.Need-loop-holds Inv-loop μ-loop
+loop-holds c = list-first _ _ _ _
+
+mul-put-event : tie.Need-mul-put-event Inv-loop μ-loop
+mul-put-event c = search needs
+
+shared-slice-read-put-event : tie.Need-shared-slice-read-put-event Inv-loop μ-loop
+shared-slice-read-put-event c = omega (arith, c .before .before .before .before .before .pre .0 .many, c .before .before .loop .inv .inside)
+
+put-event-requires : tie.Need-put-event-requires Inv-loop μ-loop
+put-event-requires c κs = list-room _ _ _ _ (c .before .before .before .before .before .before .pre .0) _ _ _ (c .before .before .before .loop .inv) (c .before .before .loop-test .taken) (c .before .before .before .before .before .before .pre .1)
+
+add-i : tie.Need-add-i Inv-loop μ-loop
+add-i c = omega arith
+
+loop-less : tie.Need-loop-less Inv-loop μ-loop
+loop-less c = omega arith
+
+loop-again : tie.Need-loop-again Inv-loop μ-loop
+loop-again c = list-more _ _ _ _ (c .before .before .before .before .before .before .before .before .before .pre .0) _ _ _ (c .before .before .before .before .before .before .loop .inv) (c .before .before .before .before .before .loop-test .taken) _ _ (c .before .before .put-event .ensures)
+
+same-length : tie.Need-same-length Inv-loop μ-loop
+same-length c = c .before .loop .inv .rest .long
+
+returns : tie.Need-returns Inv-loop μ-loop
+returns c = list-end _ _ _ _ (c .before .before .before .before .pre .0) _ _ _ (c .before .loop .inv) (c .loop-test .left)
+
+pub put-events-spec : {M : Type 1} → statement M
+put-events-spec =
+    tie.close
+    (tie.spec
+    Inv-loop
+    μ-loop
+    loop-holds
+    mul-put-event
+    shared-slice-read-put-event
+    put-event-requires
+    add-i
+    loop-less
+    loop-again
+    same-length
+    returns)

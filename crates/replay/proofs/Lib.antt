@@ -1,0 +1,6 @@
+-- The laws of this room.
+pub mod Walking
+pub mod Carryings
+pub mod OneAnswer
+pub mod InParts
+pub mod Demands

@@ -1,0 +1,261 @@
+-- Serving a part: one turn, and the whole. Assumes nothing.
+use mathlib.Core.Path.{_≡_, refl, sym, ap, _∙_, subst}
+use mathlib.Core.Bool.{true}
+use mathlib.Core.List.{List, [], _∷_, _++_}
+use Prim.Native.Nat.{ℕ, zero, suc, _+_, _-_, _*_, _≤_, _<_}
+use native.Mathlib.Omega.{arith}
+use lib.ListN.{length, getD, set, drop, length-append, length-map}
+use lib.Seq.{sets, length-sets}
+use Rattle.amounts.specs.Limits.{requestsMost, catalogueMost, isCatalogue}
+use Rattle.amounts.specs.Settings.{inRange}
+use Rattle.amounts.specs.Requests.{Request, Ranged, AllRanged}
+use Rattle.amounts.specs.declared.settings.Settings.{Settings}
+use Rattle.amounts.proofs.Tests.{in-one-to}
+use Rattle.method.specs.Shelf.{Shelf, files, bytes}
+use Rattle.method.specs.Method.{Policy, State, Served, Reply, Run, run, step}
+use Rattle.method.specs.Events.{entries, events}
+use Rattle.method.specs.Totals.{Totals, totals, counted, onAdmitted}
+use Rattle.method.specs.declared.Outcome.{Outcome}
+use Rattle.method.specs.declared.Outcome.the-variants.{Hit, Admitted, Passed}
+use Rattle.method.proofs.Runs.{length-entries}
+use Rattle.method.proofs.Counts.{step-counts}
+use Rattle.trace.specs.Reading.{Read, good, readOf}
+use Rattle.trace.specs.Steps.{RequestAt, First}
+use Rattle.trace.specs.declared.reader.Taken.{Taken}
+use Rattle.trace.proofs.RoundTrip.{part-ranged}
+use Rattle.tables.specs.Tables.{Tables, shelfOf}
+use Rattle.tables.specs.Tally.{storeOf, policyIn, stateOf, totalsOf}
+use Rattle.tables.specs.declared.tally.Tally.{Tally}
+use Rattle.tables.proofs.Ranges.{Bounded, bounded}
+use Rattle.tables.proofs.Shelves.{shelf-length}
+use Rattle.counting.specs.Counting.{tallied, after}
+use Rattle.serving.specs.Serving.{Running, Servable, Stepped, asked, beyondOf}
+use Rattle.replay.specs.Parts.{runFrom, tallyOf, eventsOf, Ready, ReadyFor, PartServed, ServedFor}
+use Rattle.replay.specs.declared.part.Ended.{Ended}
+use Rattle.serving.specs.declared.step.Step.{Step}
+use Rattle.shelving.proofs.Dropping.{SameLengths, same-lengths}
+use Rattle.serving.proofs.Runnings.{next-state}
+
+-- the loop's head: what is left of the run makes of what stands now what the whole makes of what stood at entry
+pub record Walk (a : Tally) (part : List ℕ) (count : ℕ) (t₀ : Tables) (told₀ : List ℕ) (t : Tables) (entry free told : List ℕ) (b : Tally) (at e i : ℕ) : Type 0 where
+  pub qs : List Request
+  pub reads : readOf (length part) (a .settings .catalogue .0) part ≡ good qs
+  pub rest : List Request
+  pub left : readOf (length part) (a .settings .catalogue .0) (drop at part) ≡ good rest
+  pub inside : at ≤ length part
+  pub number : i + length rest ≡ count
+  pub settings : b .settings ≡ a .settings
+  pub running : Running b t entry free
+  pub few : b .requests + length rest ≤ requestsMost
+  pub room : e + 2 * length rest + b .«files_kept» ≤ length told
+  pub state : runFrom b t rest .state ≡ runFrom a t₀ qs .state
+  pub sums : totals (totalsOf b) (runFrom b t rest .replies) ≡ totals (totalsOf a) (runFrom a t₀ qs .replies)
+  pub written : sets told e (eventsOf rest (runFrom b t rest)) ≡ sets told₀ 0 (eventsOf qs (runFrom a t₀ qs))
+  pub counts : e + length (eventsOf rest (runFrom b t rest)) ≡ length (eventsOf qs (runFrom a t₀ qs))
+  pub past : beyondOf (a .settings) t ≡ beyondOf (a .settings) t₀
+
+pub walk-first : (a : Tally) (part : List ℕ) (count : ℕ) (t : Tables) (entry free told : List ℕ) → ReadyFor a part count t entry free told → Walk a part count t told t entry free told a 0 0 0
+walk-first a part count t entry free told r =
+    let h = r .1 in
+    record {
+      qs = r .0;
+      reads = h .reads;
+      rest = r .0;
+      left = h .reads;
+      inside = omega arith;
+      number = omega (arith, h .counts);
+      settings = refl;
+      running = h .running;
+      few = omega (arith, h .few, h .counts);
+      room = omega (arith, h .room, h .counts);
+      state = refl;
+      sums = refl;
+      written = refl;
+      counts = omega arith;
+      past = refl;
+    }
+
+pub good-one : {l m : List Request} → good l ≡ good m → l ≡ m
+good-one e = cc
+
+sets-append : (l : List ℕ) (i : ℕ) (xs ys : List ℕ) → sets l i (xs ++ ys) ≡ sets (sets l i xs) (i + length xs) ys
+sets-append l i [] ys = ap (λ (k : ℕ). sets l k ys) (omega arith)
+sets-append l i (x ∷ xs) ys = sets-append (set l i x) (suc i) xs ys ∙ ap (λ (k : ℕ). sets (sets (set l i x) (suc i) xs) k ys) (omega arith)
+
+at-most-one : (o : Outcome) → onAdmitted o 1 ≤ 1
+at-most-one Hit = omega arith
+at-most-one Admitted = omega arith
+at-most-one (Passed w) = omega arith
+
+-- ---- one request of the run
+
+module _ (b : Tally) (t : Tables) (entry free told : List ℕ) (e : ℕ) (q : Request) (l : List Request) (h : Servable b q t entry free told e)
+    (r : Step) (u : Tables) (entry′ free′ told′ : List ℕ) (s : Stepped b q t told e r u entry′ free′ told′) where
+  abbrev x : Served State
+  x = step (policyIn (b .settings)) (storeOf (b .settings)) (stateOf b t) q
+
+  -- the rest of the run goes on from what stands now
+  rest-run : runFrom (r .tally) u l ≡ run (step (policyIn (b .settings)) (storeOf (b .settings))) (x .state) l
+  rest-run =
+      ap (λ (y : Tally). runFrom y u l) (s .serves .tally)
+      ∙ ap (λ (st : State). run (step (policyIn (b .settings)) (storeOf (b .settings))) st l) (next-state b t entry free (h .running) q (h .ranged) (h .few) u (s .serves .shelf))
+
+  more-state : runFrom (r .tally) u l .state ≡ runFrom b t (q ∷ l) .state
+  unfolding run
+  more-state = ap (λ (y : Run State). y .state) rest-run
+
+  more-sums : totals (totalsOf (r .tally)) (runFrom (r .tally) u l .replies) ≡ totals (totalsOf b) (runFrom b t (q ∷ l) .replies)
+  unfolding run totals
+  more-sums = λ i. totals (totalsOf (s .serves .tally i)) (rest-run i .replies)
+
+  more-events : eventsOf (q ∷ l) (runFrom b t (q ∷ l)) ≡ entries q (x .reply) ++ eventsOf l (runFrom (r .tally) u l)
+  unfolding run events
+  more-events = ap (λ (y : Run State). entries q (x .reply) ++ events l (y .replies)) (sym rest-run)
+
+  more-written : sets told′ (r .events) (eventsOf l (runFrom (r .tally) u l)) ≡ sets told e (eventsOf (q ∷ l) (runFrom b t (q ∷ l)))
+  more-written =
+      (λ i. sets (s .serves .written i) (s .serves .count i) (eventsOf l (runFrom (r .tally) u l)))
+      ∙ sym (sets-append told e (entries q (x .reply)) (eventsOf l (runFrom (r .tally) u l))) ∙ ap (sets told e) (sym more-events)
+
+  more-counts : r .events + length (eventsOf l (runFrom (r .tally) u l)) ≡ e + length (eventsOf (q ∷ l) (runFrom b t (q ∷ l)))
+  more-counts =
+      omega (arith, s .serves .count, ap (λ (es : List ℕ). length es) more-events, length-append (entries q (x .reply)) (eventsOf l (runFrom (r .tally) u l)))
+
+  more-room : e + 2 * suc (length l) + b .«files_kept» ≤ length told → r .events + 2 * length l + r .tally .«files_kept» ≤ length told′
+  more-room room =
+      let k : length (x .reply .evicted) + files (x .state .shelf) ≡ files (stateOf b t .shelf) + onAdmitted (x .reply .outcome) 1 =
+      step-counts (policyIn (b .settings)) (storeOf (b .settings)) (stateOf b t) q (omega (arith, shelf-length (b .settings .catalogue .0) t (h .running .long .place), h .ranged .file)) in
+      let n : r .tally .«files_kept» ≡ files (x .state .shelf) = ap (λ (y : Tally). y .«files_kept») (s .serves .tally) in
+      let w : length told′ ≡ length told = ap (λ (es : List ℕ). length es) (s .serves .written) ∙ length-sets told e (entries q (x .reply)) in
+      omega (arith, s .serves .count, length-entries q (x .reply), at-most-one (x .reply .outcome), h .running .sound .files)
+
+  more-requests : r .tally .requests ≡ b .requests + 1
+  more-requests = ap (λ (y : Tally). y .requests) (s .serves .tally)
+
+  same-settings : r .tally .settings ≡ b .settings
+  same-settings = ap (λ (y : Tally). y .settings) (s .serves .tally)
+
+-- ---- a turn of the loop
+
+module _ (a : Tally) (part : List ℕ) (count : ℕ) (t₀ : Tables) (told₀ : List ℕ) (t : Tables) (entry free told : List ℕ) (b : Tally) (at e i : ℕ)
+    (w : Walk a part count t₀ told₀ t entry free told b at e i) (more : i < count) (y : Taken) (z : RequestAt part at y) where
+  -- the next request, and those after it
+  record Turn : Type 0 where
+    q : Request
+    l : List Request
+    rest : w .rest ≡ q ∷ l
+    first : First part (length part) (a .settings .catalogue .0) y q l
+    ranged : Ranged (a .settings .catalogue .0) q
+
+  turn : Turn
+  turn = go (w .rest) refl (w .left)
+    where
+      go : (r : List Request) → w .rest ≡ r → readOf (length part) (a .settings .catalogue .0) (drop at part) ≡ good r → Turn
+      go [] n g = absurd (omega (arith, w .number, ap (λ (x : List Request). length x) n))
+      go (q ∷ l) n g =
+          let c : Bounded (a .settings) = bounded (a .settings) (subst (λ (x : Settings). inRange x ≡ true) (w .settings) (w .running .ranged)) in
+          record {
+            q = q;
+            l = l;
+            rest = n;
+            first = z .first (length part) (a .settings .catalogue .0) q l (in-one-to catalogueMost (a .settings .catalogue .0) (c .catalogue .0) (c .catalogue .1)) g;
+            ranged = part-ranged (length part) (a .settings .catalogue .0) (q ∷ l) (drop at part) g .0;
+          }
+
+  asked-is : asked (y .file) (y .size) (y .cost) ≡ turn .q
+  asked-is = let f = turn .first in λ i. record { file = f .file i; size = f .size i; cost = f .cost i }
+
+  length-rest : length (w .rest) ≡ suc (length (turn .l))
+  length-rest = ap (λ (x : List Request). length x) (turn .rest)
+
+  servable-q : Servable b (turn .q) t entry free told e
+  servable-q =
+      record {
+        running = w .running;
+        few = omega (arith, w .few, length-rest);
+        ranged = subst (λ (x : Settings). Ranged (x .catalogue .0) (turn .q)) (sym (w .settings)) (turn .ranged);
+        room = omega (arith, w .room, length-rest);
+      }
+
+  pub walk-servable : (f sz co : ℕ) → f ≡ y .file → sz ≡ y .size → co ≡ y .cost → Servable b (asked f sz co) t entry free told e
+  walk-servable f sz co ef es ec =
+      subst (λ (x : Request). Servable b x t entry free told e) (sym ((λ i. asked (ef i) (es i) (ec i)) ∙ asked-is)) servable-q
+
+  pub walk-more : (f sz co : ℕ) → f ≡ y .file → sz ≡ y .size → co ≡ y .cost → (r : Step) (u : Tables) (entry′ free′ told′ : List ℕ) → Stepped b (asked f sz co) t told e r u entry′ free′ told′
+      → Walk a part count t₀ told₀ u entry′ free′ told′ (r .tally) (y .next) (r .events) (i + 1)
+  walk-more f sz co ef es ec r u entry′ free′ told′ s₀ =
+      let q : Request = turn .q in
+      let l : List Request = turn .l in
+      let s : Stepped b q t told e r u entry′ free′ told′ = subst (λ (x : Request). Stepped b x t told e r u entry′ free′ told′) ((λ i. asked (ef i) (es i) (ec i)) ∙ asked-is) s₀ in
+      let at-rest : runFrom b t (w .rest) ≡ runFrom b t (q ∷ l) = ap (runFrom b t) (turn .rest) in
+      record {
+        qs = w .qs;
+        reads = w .reads;
+        rest = l;
+        left = turn .first .rest;
+        inside = z .inside;
+        number = omega (arith, w .number, length-rest);
+        settings = same-settings b t entry free told e q l servable-q r u entry′ free′ told′ s ∙ w .settings;
+        running = s .running;
+        few = omega (arith, w .few, length-rest, more-requests b t entry free told e q l servable-q r u entry′ free′ told′ s);
+        room = more-room b t entry free told e q l servable-q r u entry′ free′ told′ s (omega (arith, w .room, length-rest));
+        state = more-state b t entry free told e q l servable-q r u entry′ free′ told′ s ∙ ap (λ (x : Run State). x .state) (sym at-rest) ∙ w .state;
+        sums = more-sums b t entry free told e q l servable-q r u entry′ free′ told′ s ∙ ap (λ (x : Run State). totals (totalsOf b) (x .replies)) (sym at-rest) ∙ w .sums;
+        written =
+            more-written b t entry free told e q l servable-q r u entry′ free′ told′ s
+            ∙ (λ i. sets told e (eventsOf (sym (turn .rest) i) (sym at-rest i))) ∙ w .written;
+        counts =
+            more-counts b t entry free told e q l servable-q r u entry′ free′ told′ s
+            ∙ (λ i. e + length (eventsOf (sym (turn .rest) i) (sym at-rest i))) ∙ w .counts;
+        past = subst (λ (x : Settings). beyondOf x u ≡ beyondOf x t) (w .settings) (s .serves .past) ∙ w .past;
+      }
+
+-- ---- the end
+
+pub walk-end : (a : Tally) (part : List ℕ) (count : ℕ) (t₀ : Tables) (told₀ : List ℕ) (t : Tables) (entry free told : List ℕ) (b : Tally) (at e i : ℕ)
+    → Walk a part count t₀ told₀ t entry free told b at e i → count ≤ i → (r : Ended) → r .tally ≡ b → r .events ≡ e → ServedFor a part t₀ told₀ r t entry free told
+unfolding run totals events
+walk-end a part count t₀ told₀ t entry free told b at e i w end r is-b is-e qs reads =
+    let none : w .rest ≡ [] = empty (w .rest) (omega (arith, w .number)) in
+    let same : w .qs ≡ qs = good-one (sym (w .reads) ∙ reads) in
+    let st : stateOf b t ≡ runFrom a t₀ qs .state = ap (λ (l : List Request). runFrom b t l .state) (sym none) ∙ w .state ∙ ap (λ (l : List Request). runFrom a t₀ l .state) same in
+    let sums : totalsOf b ≡ totals (totalsOf a) (runFrom a t₀ qs .replies) =
+    ap (λ (l : List Request). totals (totalsOf b) (runFrom b t l .replies)) (sym none) ∙ w .sums ∙ ap (λ (l : List Request). totals (totalsOf a) (runFrom a t₀ l .replies)) same in
+    let evs : told ≡ sets told₀ 0 (eventsOf qs (runFrom a t₀ qs)) =
+    ap (λ (l : List Request). sets told e (eventsOf l (runFrom b t l))) (sym none) ∙ w .written ∙ ap (λ (l : List Request). sets told₀ 0 (eventsOf l (runFrom a t₀ l))) same in
+    let cnt : e + 0 ≡ length (eventsOf qs (runFrom a t₀ qs)) =
+    ap (λ (l : List Request). e + length (eventsOf l (runFrom b t l))) (sym none) ∙ w .counts ∙ ap (λ (l : List Request). length (eventsOf l (runFrom a t₀ l))) same in
+    let shelf : shelfOf (a .settings .catalogue .0) t ≡ runFrom a t₀ qs .state .shelf =
+    ap (λ (x : Settings). shelfOf (x .catalogue .0) t) (sym (w .settings)) ∙ ap (λ (x : State). x .shelf) st in
+    let y : bytes (stateOf b t .shelf) ≡ b .«bytes_kept» .0 = w .running .sound .bytes in
+    let n : files (stateOf b t .shelf) ≡ b .«files_kept» = w .running .sound .files in
+    let kept-b : b .«bytes_kept» .0 ≡ bytes (runFrom a t₀ qs .state .shelf) = sym y ∙ ap (λ (x : State). bytes (x .shelf)) st in
+    let kept-n : b .«files_kept» ≡ files (runFrom a t₀ qs .state .shelf) = sym n ∙ ap (λ (x : State). files (x .shelf)) st in
+    let tally : b ≡ tallyOf a (runFrom a t₀ qs) =
+    λ j. record {
+      settings = w .settings j;
+      inflation = record { 0 = st j .inflation };
+      «bytes_kept» = record { 0 = kept-b j };
+      «files_kept» = kept-n j;
+      requests = sums j .requests;
+      hits = sums j .hits;
+      admitted = sums j .admitted;
+      passed = sums j .passed;
+      evicted = sums j .evicted;
+      «bytes_asked» = record { 0 = sums j .bytes };
+      «hit_bytes» = record { 0 = sums j .hitBytes };
+      «cost_asked» = record { 0 = sums j .cost };
+      «hit_cost» = record { 0 = sums j .hitCost };
+    } in
+    record {
+      tally = is-b ∙ tally;
+      shelf = shelf;
+      written = evs;
+      count = is-e ∙ omega (arith, cnt);
+      running = subst (λ (x : Tally). Running x t entry free) (sym is-b) (w .running);
+      past = w .past;
+    }
+  where
+    empty : (l : List Request) → length l ≤ 0 → l ≡ []
+    empty [] h = refl
+    empty (q ∷ l) h = absurd (omega arith)

@@ -1,0 +1,7 @@
+// One request: a hit, a pass, or an admission by either policy.
+mod admit;
+mod request;
+mod step;
+
+pub use request::serve;
+pub use step::Step;

@@ -1,0 +1,8 @@
+-- What the contracts cite.
+pub mod Live
+pub mod Room
+pub mod Records
+pub mod Evicting
+pub mod Telling
+pub mod Hitting
+pub mod Taking

@@ -1,0 +1,57 @@
+// A hit: the kept file's key is set anew, and its queue entry moves to where it then belongs.
+use crate::wide::wide16;
+use crate::wide::wide32;
+use amounts::Bytes;
+use amounts::Cost;
+use amounts::Policy;
+use tables::Tally;
+ghost use mathlib.Core.Path.{_≡_};
+ghost use Prim.Native.Nat.{_<_};
+ghost use Rattle.amounts.specs.Limits.{requestsMost};
+ghost use Rattle.method.specs.Method as method;
+ghost use Rattle.shelving.specs.Hitting.{Hittable, HitDone};
+
+// The frequency after a hit: policy 1 does not count.
+fn again(policy: Policy, frequency: u64) -> u64
+    requires { ⌜ frequency < requestsMost ⌝ }
+    ensures { λ r. ⌜ r ≡ method.again (method.policyOf (policy .0)) frequency ⌝ }
+{
+    if policy.0 == Policy::SIZE {
+        return 1;
+    }
+    frequency + 1
+}
+
+// A hit on the file at place p.
+pub fn hit(
+    a: Tally,
+    p: usize,
+    size: &[u32],
+    cost: &[u16],
+    freq: &mut [u32],
+    key: &mut [u64],
+    stamp: &mut [u64],
+    queue: &mut [u16],
+    entry: &mut [u16],
+) -> Tally
+    requires { ⌜ Hittable a p (now size) (now cost) (now freq) (now key) (now stamp) (now queue) (now entry) ⌝ }
+    ensures { λ r. ⌜ HitDone a p (now (size .entry)) (now (cost .entry)) (now (freq .entry)) (now (key .entry)) (now (stamp .entry)) (now (queue .entry)) (now (entry .entry)) (now (freq .exit)) (now (key .exit)) (now (stamp .exit)) (now (queue .exit)) (now (entry .exit)) r ⌝ }
+{
+    let z = Bytes(wide32(size[p]));
+    let w = Cost(wide16(cost[p]) as u64);
+    let f = again(a.settings.policy, wide32(freq[p]));
+    let k = a.inflation.plus(amounts::product(f, z, w));
+    let at = wide16(entry[p]);
+    freq[p] = f as u32;
+    queue::rekey(
+        queue,
+        entry,
+        key,
+        stamp,
+        a.files_kept as usize,
+        at,
+        k.0,
+        a.requests,
+    );
+    counting::with_hit(a, z, w)
+}

@@ -1,0 +1,24 @@
+// What a request does to the tables: files kept and dropped, room made for a newcomer, a key set anew, and the events told.
+mod events;
+mod evict;
+mod hitting;
+mod keeping;
+mod records;
+mod room;
+mod wide;
+
+pub use events::ADMIT;
+pub use events::BIG;
+pub use events::HIT;
+pub use events::LOW;
+pub use events::event;
+pub use evict::drop_behind;
+pub use evict::tell;
+pub use hitting::hit;
+pub use keeping::keep;
+pub use records::Kept;
+pub use room::Room;
+pub use room::make_room;
+pub use room::put_back;
+pub use wide::wide16;
+pub use wide::wide32;

@@ -1,0 +1,6 @@
+-- The laws of the boundary.
+pub mod Starting
+pub mod Carrying
+pub mod Tracing
+pub mod Refusing
+pub mod OneAnswer

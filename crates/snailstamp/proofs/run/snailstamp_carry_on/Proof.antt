@@ -1,0 +1,90 @@
+-- `snailstamp::run::snailstamp_carry_on` meets its contract. Assumes nothing.
+use borrow.Author.Needs.{needs}
+use borrow.Author.Tests.{lt-leb, le-leb}
+use Rattle.amounts.proofs.Tests.{denied, allowed}
+use Rattle.snailstamp.proofs.Carrying.{carried-setting, carried-few, carried-on}
+use Rattle.snailstamp.proofs.run.snailstamp_carry_on.Statement.{statement}
+use Rattle.snailstamp.proofs.run.snailstamp_carry_on.Tie as tie
+
+is-unit-requires : tie.Need-is-unit-requires
+is-unit-requires c κs = search needs
+
+refusal-word-requires : tie.Need-refusal-word-requires
+refusal-word-requires c κs = search needs
+
+returns : tie.Need-returns
+returns c = carried-setting _ _ _ _ _ _ (denied (c .before .before .is-unit .ensures) (c .before .if1 .taken)) (c .refusal-word .ensures)
+
+refusal-word-requires-2 : tie.Need-refusal-word-requires-2
+refusal-word-requires-2 c κs = search needs
+
+returns-2 : tie.Need-returns-2
+returns-2 c = carried-few _ _ _ _ _ _ (allowed (c .before .before .before .is-unit .ensures) (c .before .before .if1 .left)) (lt-leb _ _ (c .before .if2 .taken)) (c .refusal-word2 .ensures)
+
+tally-from-requires : tie.Need-tally-from-requires
+tally-from-requires c κs = search needs
+
+carry-on-requires : tie.Need-carry-on-requires
+carry-on-requires c κs = search needs
+
+put-carried-requires : tie.Need-put-carried-requires
+put-carried-requires c κs = c .before .before .before .before .before .before .before .before .before .before .before .before .before .before .before .before .before .before .before .before .before .before .before .before .before .before .before .before .before .before .before .if2 .left
+
+same-length : tie.Need-same-length
+same-length c = search needs
+
+same-length-2 : tie.Need-same-length-2
+same-length-2 c = search needs
+
+same-length-3 : tie.Need-same-length-3
+same-length-3 c = search needs
+
+same-length-4 : tie.Need-same-length-4
+same-length-4 c = search needs
+
+same-length-5 : tie.Need-same-length-5
+same-length-5 c = search needs
+
+same-length-6 : tie.Need-same-length-6
+same-length-6 c = search needs
+
+same-length-7 : tie.Need-same-length-7
+same-length-7 c = search needs
+
+same-length-8 : tie.Need-same-length-8
+same-length-8 c = search needs
+
+same-length-9 : tie.Need-same-length-9
+same-length-9 c = search needs
+
+same-length-10 : tie.Need-same-length-10
+same-length-10 c = search needs
+
+returns-3 : tie.Need-returns-3
+returns-3 c =
+    let tested = c .before .before .before .before .before .before .before .before .before .before .before .before .before .before .before .before .before .before .before .before .before .before .before .before .before .before .before .before .before .before .before .before .before .before in
+    carried-on _ _ _ _ _ _ _ _ _ _ _ (allowed (tested .before .before .is-unit .ensures) (tested .before .if1 .left)) (le-leb _ _ (tested .if2 .left)) (c .before .before .before .before .before .before .before .before .before .before .before .before .before .before .before .before .before .before .before .before .before .before .before .before .before .before .before .before .before .before .before .before .tally-from .ensures) (c .before .before .before .before .before .before .before .before .before .before .before .before .before .before .before .before .before .before .before .before .before .before .carry-on .ensures) (c .before .before .put-carried .ensures)
+
+pub snailstamp-carry-on-spec : {M : Type 1} → statement M
+snailstamp-carry-on-spec =
+    tie.close
+    (tie.spec
+    is-unit-requires
+    refusal-word-requires
+    returns
+    refusal-word-requires-2
+    returns-2
+    tally-from-requires
+    carry-on-requires
+    put-carried-requires
+    same-length
+    same-length-2
+    same-length-3
+    same-length-4
+    same-length-5
+    same-length-6
+    same-length-7
+    same-length-8
+    same-length-9
+    same-length-10
+    returns-3)

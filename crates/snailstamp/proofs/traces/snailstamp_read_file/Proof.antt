@@ -1,0 +1,50 @@
+-- `snailstamp::traces::snailstamp_read_file` meets its contract. Assumes nothing.
+use borrow.Author.Needs.{needs}
+use Rattle.snailstamp.proofs.Tracing.{file-unread, file-put}
+use Rattle.snailstamp.proofs.traces.snailstamp_read_file.Statement.{statement}
+use Rattle.snailstamp.proofs.traces.snailstamp_read_file.Tie as tie
+
+refused-unread-requires : tie.Need-refused-unread-requires
+refused-unread-requires c κs = search needs
+
+refusal-word-requires : tie.Need-refusal-word-requires
+refusal-word-requires c κs = search needs
+
+returns : tie.Need-returns
+returns c = rw (c .refusal-word .ensures) (file-unread _ _ _ _ _ _ (c .before .before .if1 .taken) (c .before .refused-unread .ensures))
+
+read-file-requires : tie.Need-read-file-requires
+read-file-requires c κs = search needs
+
+put-read-requires : tie.Need-put-read-requires
+put-read-requires c κs = search needs
+
+same-length : tie.Need-same-length
+same-length c = search needs
+
+same-length-2 : tie.Need-same-length-2
+same-length-2 c = search needs
+
+same-length-3 : tie.Need-same-length-3
+same-length-3 c = search needs
+
+same-length-4 : tie.Need-same-length-4
+same-length-4 c = search needs
+
+returns-2 : tie.Need-returns-2
+returns-2 c = file-put _ _ _ _ _ (c .before .before .before .before .before .before .before .before .before .before .before .before .before .before .if1 .left) _ _ _ _ (c .before .before .before .before .before .before .before .before .before .before .read-file .ensures) _ _ (c .before .before .put-read .ensures)
+
+pub snailstamp-read-file-spec : {M : Type 1} → statement M
+snailstamp-read-file-spec =
+    tie.close
+    (tie.spec
+    refused-unread-requires
+    refusal-word-requires
+    returns
+    read-file-requires
+    put-read-requires
+    same-length
+    same-length-2
+    same-length-3
+    same-length-4
+    returns-2)

@@ -1,0 +1,145 @@
+// The files: each has no place, or one that points back at it and holds a record in range.
+use amounts::Bytes;
+use amounts::Cost;
+use amounts::Key;
+use amounts::Places;
+use amounts::Policy;
+use amounts::Settings;
+use amounts::product;
+ghost use mathlib.Core.List.{[]};
+ghost use Prim.Native.Nat.{_≤_, _<_};
+ghost use Rattle.amounts.specs.Limits.{requestsMost};
+ghost use Rattle.method.specs.Method.{policyOf};
+ghost use Rattle.method.specs.Promise.{Once};
+ghost use Rattle.tables.specs.Tables.{tables};
+ghost use Rattle.weighing.specs.Weighing.{Exact, Covered, Right, Lawful, AllLawful};
+
+// Whether a frequency is exactly 1 where the policy is 1.
+fn is_once(policy: u64, freq: u32) -> bool
+    ensures { λ r. ⌜ Exact (Once (policyOf policy) freq) r ⌝ }
+{
+    if policy == Policy::SIZE {
+        return freq == 1;
+    }
+    true
+}
+
+// Whether a record is in range at inflation l after so many requests.
+fn is_right(
+    policy: u64,
+    inflation: Key,
+    requests: u64,
+    size: u32,
+    cost: u16,
+    freq: u32,
+    key: u64,
+    stamp: u64,
+) -> bool
+    requires { ⌜ requests ≤ requestsMost ⌝ }
+    ensures { λ r. ⌜ Exact (Right policy (inflation .0) requests (record { size = size; cost = cost; freq = freq; key = key; stamp = stamp })) r ⌝ }
+{
+    if !Bytes::is_size(size as u64) {
+        return false;
+    }
+    if cost < 1 {
+        return false;
+    }
+    if freq < 1 {
+        return false;
+    }
+    if requests < freq as u64 {
+        return false;
+    }
+    if !is_once(policy, freq) {
+        return false;
+    }
+    if requests <= stamp {
+        return false;
+    }
+    if key < inflation.0 {
+        return false;
+    }
+    let most = product(freq as u64, Bytes(size as u64), Cost(cost as u64));
+    key - inflation.0 <= most.0
+}
+
+// Whether file f has no place, or one that points back at it and holds a record in range.
+fn is_lawful(
+    settings: Settings,
+    inflation: Key,
+    requests: u64,
+    f: usize,
+    place: &[u16],
+    file: &[u16],
+    size: &[u32],
+    cost: &[u16],
+    freq: &[u32],
+    key: &[u64],
+    stamp: &[u64],
+) -> bool
+    requires { ⌜ requests ≤ requestsMost ⌝ }
+    requires { ⌜ f < settings .catalogue .0 ⌝ }
+    requires { ⌜ Covered (settings .places .0) (settings .catalogue .0) (tables (now place) (now file) (now size) (now cost) (now freq) (now key) (now stamp) []) ⌝ }
+    ensures { λ r. ⌜ Exact (Lawful settings (inflation .0) requests (tables (now (place .entry)) (now (file .entry)) (now (size .entry)) (now (cost .entry)) (now (freq .entry)) (now (key .entry)) (now (stamp .entry)) []) f) r ⌝ }
+{
+    if place[f] == Places::NONE {
+        return true;
+    }
+    let p = place[f] as usize;
+    if settings.places.0 <= p as u64 {
+        return false;
+    }
+    if file[p] as usize != f {
+        return false;
+    }
+    is_right(
+        settings.policy.0,
+        inflation,
+        requests,
+        size[p],
+        cost[p],
+        freq[p],
+        key[p],
+        stamp[p],
+    )
+}
+
+// Whether every file of the catalogue is as it should be.
+pub(crate) fn all_lawful(
+    settings: Settings,
+    inflation: Key,
+    requests: u64,
+    place: &[u16],
+    file: &[u16],
+    size: &[u32],
+    cost: &[u16],
+    freq: &[u32],
+    key: &[u64],
+    stamp: &[u64],
+) -> bool
+    requires { ⌜ requests ≤ requestsMost ⌝ }
+    requires { ⌜ Covered (settings .places .0) (settings .catalogue .0) (tables (now place) (now file) (now size) (now cost) (now freq) (now key) (now stamp) []) ⌝ }
+    ensures { λ r. ⌜ Exact (AllLawful settings (inflation .0) requests (tables (now (place .entry)) (now (file .entry)) (now (size .entry)) (now (cost .entry)) (now (freq .entry)) (now (key .entry)) (now (stamp .entry)) [])) r ⌝ }
+{
+    let catalogue = settings.catalogue.0 as usize;
+    let mut f = 0;
+    while f < catalogue {
+        if !is_lawful(
+            settings,
+            inflation,
+            requests,
+            f,
+            place,
+            file,
+            size,
+            cost,
+            freq,
+            key,
+            stamp,
+        ) {
+            return false;
+        }
+        f += 1;
+    }
+    true
+}

@@ -1,0 +1,70 @@
+// The shelf that the tables stand for: its files and its sums against the tally.
+use crate::files::all_lawful;
+use crate::sums::count_kept;
+use crate::sums::sum_kept;
+use crate::sums::sum_products;
+use amounts::Key;
+use tables::Tally;
+ghost use mathlib.Core.List.{[]};
+ghost use Prim.Native.Nat.{_≤_};
+ghost use Rattle.amounts.specs.Limits.{requestsMost};
+ghost use Rattle.tables.specs.Tables.{tables};
+ghost use Rattle.weighing.specs.Weighing.{Exact, Weighable, Balanced, Shelvable, Filed};
+
+// Whether the sums over the files that have a place are those of the tally and within their bounds.
+fn sums_agree(a: Tally, place: &[u16], size: &[u32], cost: &[u16], freq: &[u32]) -> bool
+    requires { ⌜ Weighable (a .settings .catalogue .0) (now place) (now size) (now cost) (now freq) ⌝ }
+    requires { ⌜ a .requests ≤ requestsMost ⌝ }
+    ensures { λ r. ⌜ Exact (Balanced a (now (place .entry)) (now (size .entry)) (now (cost .entry)) (now (freq .entry))) r ⌝ }
+{
+    let catalogue = a.settings.catalogue.0 as usize;
+    if count_kept(catalogue, place) != a.files_kept {
+        return false;
+    }
+    let bytes = sum_kept(catalogue, place, size);
+    if bytes != a.bytes_kept.0 {
+        return false;
+    }
+    if a.settings.capacity.0 < bytes {
+        return false;
+    }
+    if a.requests < sum_kept(catalogue, place, freq) {
+        return false;
+    }
+    let most = a.requests * Key::WORTH_MOST;
+    if most < a.inflation.0 {
+        return false;
+    }
+    sum_products(catalogue, place, size, cost, freq) <= most - a.inflation.0
+}
+
+// Whether every file is as it should be, and so are the sums over them.
+pub fn shelf_agrees(
+    a: Tally,
+    place: &[u16],
+    file: &[u16],
+    size: &[u32],
+    cost: &[u16],
+    freq: &[u32],
+    key: &[u64],
+    stamp: &[u64],
+) -> bool
+    requires { ⌜ Shelvable a (tables (now place) (now file) (now size) (now cost) (now freq) (now key) (now stamp) []) ⌝ }
+    ensures { λ r. ⌜ Exact (Filed a (tables (now (place .entry)) (now (file .entry)) (now (size .entry)) (now (cost .entry)) (now (freq .entry)) (now (key .entry)) (now (stamp .entry)) [])) r ⌝ }
+{
+    if !all_lawful(
+        a.settings,
+        a.inflation,
+        a.requests,
+        place,
+        file,
+        size,
+        cost,
+        freq,
+        key,
+        stamp,
+    ) {
+        return false;
+    }
+    sums_agree(a, place, size, cost, freq)
+}

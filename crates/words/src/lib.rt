@@ -1,0 +1,9 @@
+// Words at the boundary: an answer as one word, settings and tally as words.
+mod forms;
+
+pub use forms::answer_word;
+pub use forms::put_settings;
+pub use forms::put_words;
+pub use forms::refusal_word;
+pub use forms::settings_from;
+pub use forms::tally_from;

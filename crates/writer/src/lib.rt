@@ -1,0 +1,6 @@
+// The writer: requests of three lists as the bytes of a further part or of a file (document 01, "Trace bytes").
+mod lists;
+mod number;
+
+pub use lists::write_file;
+pub use lists::write_part;
