@@ -12,7 +12,6 @@ use Rattle.amounts.specs.Settings.{inRange}
 use Rattle.amounts.specs.Requests.{Request, AllRanged}
 use Rattle.amounts.specs.declared.settings.Settings.{Settings}
 use Rattle.card.specs.Card.{done}
-use Rattle.card.specs.declared.Refusal.{Refusal}
 use Rattle.card.specs.declared.Refusal.the-variants.{Range}
 use Rattle.method.specs.Method.{State, Run, run, step, fresh}
 use Rattle.method.proofs.Runs.{events-length}
@@ -93,9 +92,6 @@ module _ (s : Settings) (part told : List ℕ) (h : Held s part told) (t : Table
   begun : (d ≡ started.Done (freshTally s)) × (u ≡ cleared (s .places .0) (s .catalogue .0) t)
   begun = fresh-done s t d u f (h .given .ranged) (long-is _ _ t k)
 
-  pub not-refused : (x : Refusal) → d ≡ started.Refused x → ⊥
-  not-refused x e = let z : _≡_ {A = ℕ} 0 1 = cc (begun .0) in omega arith
-
   long-after : long s u ≡ true
   long-after = ap (long s) (begun .1) ∙ long-is _ _ _ (long-cleared _ _ t k)
 
@@ -127,8 +123,8 @@ module _ (s : Settings) (part told : List ℕ) (h : Held s part told) (t : Table
         let j : Judges (freshTally s) u told r w told′ part = rw (l, long-after, eq-eqb (s .unit .0) (s .unit .0) refl) at y in
         record { ran = ran-read (readOf (length part) (s .catalogue .0) part) refl (j .sound (freshly-sound s t d u f (h .given .ranged) (long-is _ _ t k) .1)) }
 
-    pub ran-own : (a : Tally) → d ≡ started.Done a → Carries a u told r w told′ (s .unit .0) part → Ran s part told r told′
-    ran-own a e y = ran-fresh (subst (λ (b : Tally). Carries b u told r w told′ (s .unit .0) part) (let q : a ≡ freshTally s = cc (begun .0) in q) y)
+    pub ran-own : (a : Tally) → a ≡ freshTally s → Carries a u told r w told′ (s .unit .0) part → Ran s part told r told′
+    ran-own a e y = ran-fresh (subst (λ (b : Tally). Carries b u told r w told′ (s .unit .0) part) e y)
 
 -- tables of the program's own lengths are long enough
 pub own-long : (s : Settings) (part told : List ℕ) → Held s part told → (p c : ℕ) → ownPlaces ≤ p → ownCatalogue ≤ c

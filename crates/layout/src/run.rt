@@ -2,10 +2,8 @@
 use amounts::Settings;
 use replay::Carried;
 use replay::carry_on;
-use tables::Started;
 use tables::Tally;
 use tables::fresh;
-use trace::Answer;
 ghost use Rattle.layout.specs.Steps.{Held, Ran};
 
 // The program's own tables.
@@ -13,7 +11,7 @@ pub(crate) const OWN_PLACES: u64 = 512;
 
 pub(crate) const OWN_CATALOGUE: u64 = 4096;
 
-// The run over the requests of a part: the answer with the tally, and the events in a list.
+// The run over the requests of a part: the answer with the tally, and the events in a list. The fresh start is not refused: settings and lengths are in order.
 pub(crate) fn run_into(settings: Settings, part: &[u8], events: &mut [u32]) -> Carried
     requires { ⌜ Held settings (now part) (now events) ⌝ }
     ensures { λ r. ⌜ Ran settings (now (part .entry)) (now (events .entry)) r (now (events .exit)) ⌝ }
@@ -26,7 +24,7 @@ pub(crate) fn run_into(settings: Settings, part: &[u8], events: &mut [u32]) -> C
     let mut key = [0u64; OWN_PLACES as usize];
     let mut stamp = [0u64; OWN_PLACES as usize];
     let mut queue = [0u16; OWN_PLACES as usize];
-    let started = fresh(
+    fresh(
         settings,
         &mut place,
         &mut file,
@@ -37,27 +35,19 @@ pub(crate) fn run_into(settings: Settings, part: &[u8], events: &mut [u32]) -> C
         &mut stamp,
         &mut queue,
     );
-    match started {
-        Started::Refused(x) => Carried {
-            answer: Answer::Refused(x),
-            tally: Tally::new(settings),
-        },
-        Started::Done(a) => {
-            let unit = settings.unit;
-            carry_on(
-                unit,
-                a,
-                &mut place,
-                &mut file,
-                &mut size,
-                &mut cost,
-                &mut freq,
-                &mut key,
-                &mut stamp,
-                &mut queue,
-                part,
-                events,
-            )
-        }
-    }
+    let unit = settings.unit;
+    carry_on(
+        unit,
+        Tally::new(settings),
+        &mut place,
+        &mut file,
+        &mut size,
+        &mut cost,
+        &mut freq,
+        &mut key,
+        &mut stamp,
+        &mut queue,
+        part,
+        events,
+    )
 }

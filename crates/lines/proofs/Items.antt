@@ -1,5 +1,5 @@
 -- A word with its number, laid piece by piece; the words of the kinds of events. Assumes nothing.
-use Prim.Native.Nat.{ℕ, _+_, _/_, _%_, _≤_, _<_}
+use Prim.Native.Nat.{ℕ, _+_, _*_, _/_, _%_, _≤_, _<_}
 use mathlib.Core.Path.{_≡_, refl, ap, sym, subst, _∙_}
 use mathlib.Core.List.{List, [], _∷_, _++_}
 use native.Mathlib.Omega.{arith}
@@ -7,6 +7,7 @@ use borrow.Author.Tests.{eq-eqb, ne-eqb}
 use lib.ListN.{length, take, set, length-set}
 use lib.Seq.{take-length, length-sets}
 use Rattle.amounts.specs.Limits.{catalogueMost}
+use Rattle.method.specs.Events.{event}
 use Rattle.trace.specs.Stores.{Roomy, Laid}
 use Rattle.trace.proofs.Laying.{roomy-front, roomy-next, laid-then}
 use Rattle.lines.specs.Decimal.{decimal}
@@ -73,6 +74,13 @@ module _ (w : List ℕ) (n end at : ℕ) (out : List ℕ) (r : Roomy (item w n e
 
       pub item-long : length (set out₂ at₂ end) ≡ length out
       item-long = laid-long (item w n end) at out _ _ item-laid
+
+-- document 01, "Event list": kind and file are read back from kind × 32,768 + file
+pub event-read : (k f : ℕ) → f < catalogueMost → eventLine (event k f) ≡ item (kindWord k) f lineFeed
+event-read k f h =
+    let d : (k * catalogueMost + f) / catalogueMost ≡ k = omega arith in
+    let m : (k * catalogueMost + f) % catalogueMost ≡ f = omega arith in
+    λ i. item (kindWord (d i)) (m i) lineFeed
 
 -- the line of each kind
 module _ (e : ℕ) where

@@ -1,8 +1,8 @@
--- `layout::run::run_into` meets its contract: a fresh start over the call's own tables is done, and carrying on is the method's run. Assumes nothing.
+-- `layout::run::run_into` meets its contract: what is carried on from a fresh start over the call's own tables is the method's run. Assumes nothing.
 use mathlib.Core.Path.{refl}
 use borrow.Author.Needs.{needs}
 use native.Mathlib.Omega.{arith}
-use Rattle.layout.proofs.Running.{not-refused, own-long, ran-own}
+use Rattle.layout.proofs.Running.{own-long, ran-own}
 use Rattle.layout.proofs.run.run_into.Statement.{statement}
 use Rattle.layout.proofs.run.run_into.Tie as tie
 
@@ -33,14 +33,8 @@ slice-aggregate-fresh-8 c = refl
 fresh-requires : tie.Need-fresh-requires
 fresh-requires c κs = search needs
 
-enum-known-started : tie.Need-enum-known-started
-enum-known-started c = search needs
-
 new-requires : tie.Need-new-requires
 new-requires c κs = search needs
-
-enum-known-started-2 : tie.Need-enum-known-started-2
-enum-known-started-2 c = search needs
 
 slice-aggregate-carry-on : tie.Need-slice-aggregate-carry-on
 slice-aggregate-carry-on c = search needs
@@ -69,14 +63,11 @@ slice-aggregate-carry-on-8 c = search needs
 carry-on-requires : tie.Need-carry-on-requires
 carry-on-requires c κs = search needs
 
-returns : tie.Need-returns
-returns c = let s = c .before .before .before .before .before .before .before .before .before .before .before .before .before .before .before .before .before .before .before .before .before .before .before in absurd (not-refused _ _ _ (s .pre) _ (own-long _ _ _ (s .pre) 512 4096 (omega arith) (omega arith)) _ _ (c .before .before .before .before .before .before .before .before .before .before .before .before .fresh .ensures) _ (c .before .before .started .given .1))
-
 same-length : tie.Need-same-length
 same-length c = search needs
 
-returns-2 : tie.Need-returns-2
-returns-2 c = let s = c .before .before .before .before .before .before .before .before .before .before .before .before .before .before .before .before .before .before .before .before .before .before .before .before .before .before .before .before .before .before .before .before .before .before .before .before .before .before .before .before .before .before .before in ran-own _ _ _ (s .pre) _ (own-long _ _ _ (s .pre) 512 4096 (omega arith) (omega arith)) _ _ (c .before .before .before .before .before .before .before .before .before .before .before .before .before .before .before .before .before .before .before .before .before .before .before .before .before .before .before .before .before .before .before .before .fresh .ensures) _ _ _ _ (c .before .before .before .before .before .before .before .before .before .before .before .before .before .before .before .before .before .before .before .before .before .before .started2 .given .1) (c .before .before .before .before .before .before .before .before .before .before .carry-on .ensures)
+returns : tie.Need-returns
+returns c = let s = c .before .before .before .before .before .before .before .before .before .before .before .before .before .before .before .before .before .before .before .before .before .before .before .before .before .before .before .before .before .before .before .before .before .before .before .before .before .before .before .before .before in ran-own _ _ _ (s .pre) _ (own-long _ _ _ (s .pre) 512 4096 (omega arith) (omega arith)) _ _ (c .before .before .before .before .before .before .before .before .before .before .before .before .before .before .before .before .before .before .before .before .before .before .before .before .before .before .before .before .before .before .fresh .ensures) _ _ _ _ (c .before .before .before .before .before .before .before .before .before .before .before .before .before .before .before .before .before .before .before .before .new .ensures) (c .before .before .before .before .before .before .before .before .before .before .carry-on .ensures)
 
 pub run-into-spec : {M : Type 1} → statement M
 run-into-spec =
@@ -91,9 +82,7 @@ run-into-spec =
     slice-aggregate-fresh-7
     slice-aggregate-fresh-8
     fresh-requires
-    enum-known-started
     new-requires
-    enum-known-started-2
     slice-aggregate-carry-on
     slice-aggregate-carry-on-2
     slice-aggregate-carry-on-3
@@ -103,6 +92,5 @@ run-into-spec =
     slice-aggregate-carry-on-7
     slice-aggregate-carry-on-8
     carry-on-requires
-    returns
     same-length
-    returns-2)
+    returns)
