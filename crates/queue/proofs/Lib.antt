@@ -5,4 +5,5 @@ pub mod Callers
 pub mod Exchange
 pub mod Heap
 pub mod Turns
+pub mod Hole
 pub mod Stores

@@ -1,11 +1,11 @@
-// One entry of the queue and two: comparing them, and storing them with the index kept in step.
+// One entry of the queue and two: comparing them, and storing one with the index kept in step.
 use amounts::Key;
 use amounts::lower;
 ghost use mathlib.Core.Path.{_≡_};
 ghost use Prim.Native.Nat.{_<_};
 ghost use lib.ListN.{length, getD};
 ghost use Rattle.queue.specs.Queue.{lowerAt};
-ghost use Rattle.queue.specs.Moves.{Legible, Slot, Placed, Pair, Exchanged};
+ghost use Rattle.queue.specs.Moves.{Legible, Slot, Placed};
 
 // A place as an index into the lent tables.
 pub(crate) fn wide(place: u16) -> usize
@@ -46,15 +46,4 @@ pub(crate) fn put(queue: &mut [u16], entry: &mut [u16], i: usize, place: u16)
     let p = wide(place);
     queue[i] = place;
     entry[p] = i as u16;
-}
-
-// Exchanges entries i and j: whatever is out of order, the places held stay the same.
-pub(crate) fn exchange(queue: &mut [u16], entry: &mut [u16], i: usize, j: usize)
-    requires { ⌜ Pair (now queue) (now entry) i j ⌝ }
-    ensures { λ _. ⌜ Exchanged (now (queue .entry)) (now (queue .exit)) (now (entry .entry)) (now (entry .exit)) i j ⌝ }
-{
-    let x = queue[i];
-    let y = queue[j];
-    put(queue, entry, i, y);
-    put(queue, entry, j, x);
 }
