@@ -15,7 +15,7 @@ pub(crate) fn wide(place: u16) -> usize
 }
 
 // Whether the file at place a is lower than that at place b.
-fn lower_place(keys: &[u64], stamps: &[u64], a: usize, b: usize) -> bool
+pub(crate) fn lower_place(keys: &[u64], stamps: &[u64], a: usize, b: usize) -> bool
     requires { ⌜ (a < length (now keys)) × (b < length (now keys)) ⌝ }
     requires { ⌜ (a < length (now stamps)) × (b < length (now stamps)) ⌝ }
     ensures { λ r. ⌜ r ≡ lowerAt (now (keys .entry)) (now (stamps .entry)) a b ⌝ }

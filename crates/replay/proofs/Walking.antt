@@ -20,7 +20,7 @@ use Rattle.method.specs.declared.Outcome.the-variants.{Hit, Admitted, Passed}
 use Rattle.method.proofs.Runs.{length-entries}
 use Rattle.method.proofs.Counts.{step-counts}
 use Rattle.trace.specs.Reading.{Read, good, readOf}
-use Rattle.trace.specs.Steps.{RequestAt, First}
+use Rattle.trace.specs.Steps.{Requested, RequestAt, First}
 use Rattle.trace.specs.declared.reader.Taken.{Taken}
 use Rattle.trace.proofs.RoundTrip.{part-ranged}
 use Rattle.tables.specs.Tables.{Tables, shelfOf}
@@ -42,7 +42,6 @@ pub record Walk (a : Tally) (part : List ℕ) (count : ℕ) (t₀ : Tables) (tol
   pub reads : readOf (length part) (a .settings .catalogue .0) part ≡ good qs
   pub rest : List Request
   pub left : readOf (length part) (a .settings .catalogue .0) (drop at part) ≡ good rest
-  pub inside : at ≤ length part
   pub number : i + length rest ≡ count
   pub settings : b .settings ≡ a .settings
   pub running : Running b t entry free
@@ -62,7 +61,6 @@ walk-first a part count t entry free told r =
       reads = h .reads;
       rest = r .0;
       left = h .reads;
-      inside = omega arith;
       number = omega (arith, h .counts);
       settings = refl;
       running = h .running;
@@ -137,6 +135,14 @@ module _ (b : Tally) (t : Tables) (entry free told : List ℕ) (e : ℕ) (q : Re
 
 -- ---- a turn of the loop
 
+pub walk-there : (a : Tally) (part : List ℕ) (count : ℕ) (t₀ : Tables) (told₀ : List ℕ) (t : Tables) (entry free told : List ℕ) (b : Tally) (at e i : ℕ)
+    → Walk a part count t₀ told₀ t entry free told b at e i → i < count → Requested part at
+walk-there a part count t₀ told₀ t entry free told b at e i w more = go (w .rest) (w .left) (w .number)
+  where
+    go : (r : List Request) → readOf (length part) (a .settings .catalogue .0) (drop at part) ≡ good r → i + length r ≡ count → Requested part at
+    go [] g n = absurd (omega arith)
+    go (q ∷ l) g n = record { n = length part; catalogue = a .settings .catalogue .0; q = q; after = l; reads = g }
+
 module _ (a : Tally) (part : List ℕ) (count : ℕ) (t₀ : Tables) (told₀ : List ℕ) (t : Tables) (entry free told : List ℕ) (b : Tally) (at e i : ℕ)
     (w : Walk a part count t₀ told₀ t entry free told b at e i) (more : i < count) (y : Taken) (z : RequestAt part at y) where
   -- the next request, and those after it
@@ -193,7 +199,6 @@ module _ (a : Tally) (part : List ℕ) (count : ℕ) (t₀ : Tables) (told₀ : 
         reads = w .reads;
         rest = l;
         left = turn .first .rest;
-        inside = z .inside;
         number = omega (arith, w .number, length-rest);
         settings = same-settings b t entry free told e q l servable-q r u entry′ free′ told′ s ∙ w .settings;
         running = s .running;

@@ -7,7 +7,7 @@ use lib.ListN.{length, drop, set, length-map}
 use Rattle.amounts.specs.Requests.{Request}
 use Rattle.trace.specs.Reading.{good, readOf, rows}
 use Rattle.trace.specs.Promise.{Over, filesOf, sizesOf, costsOf}
-use Rattle.trace.specs.Steps.{RequestAt, Ready}
+use Rattle.trace.specs.Steps.{Requested, RequestAt, Ready}
 use Rattle.trace.specs.declared.reader.Taken.{Taken}
 use Rattle.trace.proofs.Scanning.{counted-good}
 use Rattle.trace.proofs.Laying.{Left, left-first, left-one, left-end, laid-over}
@@ -57,6 +57,13 @@ module _ (part : List ℕ) (c from count : ℕ) (f₀ s₀ d₀ : List ℕ) (rea
             in-sizes = rw (p .size) (left-one (q .size) (sizesOf l) i s hs);
             in-costs = rw (p .cost) (left-one (q .cost) (costsOf l) i d hd);
           }
+
+  pub filling-there : (f s d : List ℕ) (at i : ℕ) → Filling part c (allOf part c from) f₀ s₀ d₀ f s d at i → i < count → Requested part at
+  filling-there f s d at i w h = go (w .rest) (w .left) (w .number)
+    where
+      go : (l : List Request) → readOf (length part) c (drop at part) ≡ good l → i + length l ≡ length (allOf part c from) → Requested part at
+      go [] e n = absurd (omega (arith, all-many))
+      go (q ∷ l) e n = record { n = length part; catalogue = c; q = q; after = l; reads = e }
 
   pub filling-end : (f s d : List ℕ) (at i : ℕ) → Filling part c (allOf part c from) f₀ s₀ d₀ f s d at i → count ≤ i → Over (allOf part c from) f₀ s₀ d₀ f s d
   filling-end f s d at i w h = go (w .rest) (w .number) (w .in-files) (w .in-sizes) (w .in-costs)

@@ -1,6 +1,7 @@
 -- Laws of a number in the course of being read. Assumes nothing.
 use Prim.Native.Nat.{ℕ, zero, suc, _+_, _*_, _-_, _%_, _^_, _≤_, _<_}
 use mathlib.Core.Path.{_≡_, refl, ap, sym, subst, _∙_}
+use mathlib.Core.Logic.{_⊎_, inl, inr, ⊎-elim}
 use mathlib.Core.List.{List, [], _∷_}
 use mathlib.Core.Bool.{Bool, true, false}
 use native.Mathlib.Omega.{arith}
@@ -8,11 +9,11 @@ use native.Mathlib.Numerals.{add-one}
 use native.Mathlib.Nat.{mul-le-mul-right, pow-le-pow-right, pow-suc, add-mul, mul-assoc}
 use lib.ListN.{length, drop, getD, drop-of-length-le}
 use lib.Seq.{drop-cons}
-use borrow.Author.Tests.{ne-eqb, eqb-true, eqb-false}
+use borrow.Author.Tests.{ne-eqb, eqb-true, eqb-false, lt-ltb, le-ltb}
 use lib.Dec.{ltb, eqb, lit<, lit≤}
 use Rattle.trace.specs.Number.{Num, num, bad, groups, before, decode}
-use Rattle.trace.specs.Steps.{Fine, taken, with-group, NumberAt}
-use Rattle.trace.specs.declared.number.Number.{Number}
+use Rattle.amounts.proofs.Tests.{below}
+use Rattle.trace.specs.Steps.{Fine, taken, with-group, Numbered, NumberAt}
 use Rattle.trace.specs.declared.number.Group.{Group}
 use Rattle.trace.specs.declared.number.Next.{Next}
 use Rattle.trace.specs.declared.number.Next.the-variants.{More, Last, Bad}
@@ -133,29 +134,46 @@ pub record Pending (part : List ℕ) (at i : ℕ) (g : Group) : Type 0 where
   pub fine : Fine g
   pub same : decode (drop at part) ≡ pend g (drop i part)
 
-module _ (part : List ℕ) (at : ℕ) where
-  pub pending-first : Pending part at at fresh
-  pending-first = record { fine = fresh-fine; same = sym (pend-fresh (drop at part)) }
+pub pending-first : (part : List ℕ) (at : ℕ) → Pending part at at fresh
+pending-first part at = record { fine = fresh-fine; same = sym (pend-fresh (drop at part)) }
 
-  none : decode (drop at part) ≡ bad → (r : Number) → r .next ≤ length part → NumberAt part at r
-  none e r h = record { inside = h; found = λ v rest e′. let n : _≡_ {A = ℕ} 0 1 = cc in absurd (omega arith) }
+-- what one group more makes of g, by whether another follows it
+module _ (g : Group) (b : ℕ) where
+  taken-on : 128 ≤ b → (taken g b ≡ Bad) ⊎ (taken g b ≡ More (record { value = with-group g b; scale = g .scale * 128; count = g .count + 1 }))
+  unfolding taken
+  taken-on h = go (eqb (g .count) 5) refl
+    where
+      go : (l : Bool) → eqb (g .count) 5 ≡ l → (taken g b ≡ Bad) ⊎ (taken g b ≡ More (record { value = with-group g b; scale = g .scale * 128; count = g .count + 1 }))
+      go true e = inl (simp (le-ltb b 128 h, e))
+      go false e = inr (simp (le-ltb b 128 h, e))
 
-  module _ (i : ℕ) (g : Group) (p : Pending part at i g) where
-    pub pending-end : i ≡ length part → (r : Number) → r .next ≤ length part → NumberAt part at r
-    pending-end e = none (p .same ∙ pend-end part g i e)
+  taken-last : b < 128 → (taken g b ≡ Bad) ⊎ (taken g b ≡ Last (with-group g b))
+  unfolding taken
+  taken-last h = go (eqb b 0) refl (eqb (g .count) 0) refl
+    where
+      go : (z : Bool) → eqb b 0 ≡ z → (f : Bool) → eqb (g .count) 0 ≡ f → (taken g b ≡ Bad) ⊎ (taken g b ≡ Last (with-group g b))
+      go true e₁ true e₂ = inr (simp (lt-ltb b 128 h, e₁, e₂))
+      go true e₁ false e₂ = inl (simp (lt-ltb b 128 h, e₁, e₂))
+      go false e₁ f e₂ = inr (simp (lt-ltb b 128 h, e₁))
 
-    module _ (h : i < length part) where
-      pub pending-bad : taken g (getD part i 0) ≡ Bad → (r : Number) → r .next ≤ length part → NumberAt part at r
-      pending-bad e = none (p .same ∙ turn part g i (p .fine) h ∙ ap (λ (x : Next). goOn x (drop (i + 1) part)) e)
+-- where there is a number, reading it never ends badly
+module _ (part : List ℕ) (at : ℕ) (there : Numbered part at) (i : ℕ) (g : Group) (p : Pending part at i g) where
+  not-bad : pend g (drop i part) ≡ bad → ⊥
+  not-bad e = let s = there .spelt in let t = p .same in let n : _≡_ {A = ℕ} 0 1 = cc in omega arith
 
-      pub pending-more : (g′ : Group) → taken g (getD part i 0) ≡ More g′ → Pending part at (i + 1) g′
-      pending-more g′ e =
-          record {
-            fine = fine-next g (p .fine) (getD part i 0) g′ e;
-            same = p .same ∙ turn part g i (p .fine) h ∙ ap (λ (x : Next). goOn x (drop (i + 1) part)) e;
-          }
+  pub pending-inside : i < length part
+  pending-inside = ⊎-elim (λ h. h) (λ h. absurd (not-bad (rw (drop-of-length-le part {i = i} h) (pend-nil g)))) (below i (length part))
 
-      pub pending-last : (r : Number) → r .next ≡ i + 1 → taken g (getD part i 0) ≡ Last (r .value) → NumberAt part at r
-      pending-last r n e =
-          let same : decode (drop at part) ≡ num (r .value) (drop (i + 1) part) = p .same ∙ turn part g i (p .fine) h ∙ ap (λ (x : Next). goOn x (drop (i + 1) part)) e in
-          record { inside = omega arith; found = λ v rest e′. (cc, cc) }
+  turned : (x : Next) → taken g (getD part i 0) ≡ x → pend g (drop i part) ≡ goOn x (drop (i + 1) part)
+  turned x e = turn part g i (p .fine) pending-inside ∙ ap (λ (y : Next). goOn y (drop (i + 1) part)) e
+
+  pub pending-on : 128 ≤ getD part i 0 → Pending part at (i + 1) (record { value = with-group g (getD part i 0); scale = g .scale * 128; count = g .count + 1 })
+  pending-on h =
+      ⊎-elim
+      (λ e. absurd (not-bad (turned Bad e)))
+      (λ e. record { fine = fine-next g (p .fine) (getD part i 0) _ e; same = p .same ∙ turned _ e })
+      (taken-on g (getD part i 0) h)
+
+  pub pending-last : getD part i 0 < 128 → NumberAt part at (record { value = with-group g (getD part i 0); next = i + 1 })
+  pending-last h =
+      ⊎-elim (λ e. absurd (not-bad (turned Bad e))) (λ e. record { spelt = p .same ∙ turned _ e }) (taken-last g (getD part i 0) h)

@@ -16,7 +16,7 @@ use Rattle.card.specs.declared.Refusal.the-variants.{Range}
 use Rattle.trace.specs.Number.{Num, num, bad, decode}
 use Rattle.trace.specs.Fields.{val, off, offset, judged, field, onVal, isFile}
 use Rattle.trace.specs.Reading.{Read, good, stop, push, readOf, Opened, opened, shut, setting, settingsOf}
-use Rattle.trace.specs.Steps.{NumberAt, First, RequestAt}
+use Rattle.trace.specs.Steps.{Numbered, NumberAt, Requested, First, RequestAt}
 use Rattle.trace.specs.declared.number.Number.{Number}
 use Rattle.trace.proofs.Enough.{read-nil, read-cons}
 
@@ -85,27 +85,54 @@ some n c b t l e =
       rest = p .1 .1;
     }
 
+-- bytes spell one number, with one rest
+one-value : {x : Num} {v w : ℕ} {r t : List ℕ} → x ≡ num v r → x ≡ num w t → w ≡ v
+one-value e f = cc
+
+one-rest : {x : Num} {v w : ℕ} {r t : List ℕ} → x ≡ num v r → x ≡ num w t → t ≡ r
+one-rest e f = cc
+
+-- the bytes of the first request at a place
+pub first-at : (part : List ℕ) (at n c : ℕ) (l : List Request) (q : Request) → readOf n c (drop at part) ≡ good (q ∷ l) → Some n c (drop at part) (q ∷ l)
+first-at part at n c l q e = go (drop at part) e
+  where
+    go : (s : List ℕ) → readOf n c s ≡ good (q ∷ l) → Some n c s (q ∷ l)
+    go [] e = let z : _≡_ {A = ℕ} 0 1 = cc (read-nil n c) in absurd (omega arith)
+    go (b ∷ t) e = some n c b t (q ∷ l) e
+
+-- where there is a request, its three numbers are there
+module _ (part : List ℕ) (at : ℕ) (there : Requested part at) where
+  p : Some (there .n) (there .catalogue) (drop at part) (there .q ∷ there .after)
+  p = first-at part at (there .n) (there .catalogue) (there .after) (there .q) (there .reads)
+
+  pub file-there : Numbered part at
+  file-there = record { value = p .q .file; rest = p .s₁; spelt = p .file }
+
+  module _ (a : Number) (ha : NumberAt part at a) where
+    pub size-there : Numbered part (a .next)
+    size-there = record { value = p .q .size; rest = p .s₂; spelt = rw (one-rest (p .file) (ha .spelt)) (p .size) }
+
+    pub cost-there : (z : Number) → NumberAt part (a .next) z → Numbered part (z .next)
+    unfolding size-there
+    cost-there z hz = record { value = p .q .cost; rest = p .s₃; spelt = rw (one-rest (size-there .spelt) (hz .spelt)) (p .cost) }
+
 -- three numbers make a request
 pub three : (part : List ℕ) (at : ℕ) (a z d : Number) → NumberAt part at a → NumberAt part (a .next) z → NumberAt part (z .next) d
     → RequestAt part at (record { file = a .value % 65536; size = z .value % 4294967296; cost = d .value % 65536; next = d .next })
-three part at a z d ha hz hd = record { inside = hd .inside; first = λ n c q l hc e. first n c q l hc (drop at part) refl e }
-  where
-    first : (n c : ℕ) (q : Request) (l : List Request) → isCatalogue c ≡ true → (s : List ℕ) → drop at part ≡ s → readOf n c s ≡ good (q ∷ l)
-        → First part n c (record { file = a .value % 65536; size = z .value % 4294967296; cost = d .value % 65536; next = d .next }) q l
-    first n c q l hc [] es e = let z : _≡_ {A = ℕ} 0 1 = cc (read-nil n c) in absurd (omega arith)
-    first n c q l hc (b ∷ t) es e =
-        let p = some n c b t (q ∷ l) e in
-        let eq : p .q ≡ q = cc (p .split) in
-        let el : p .after ≡ l = cc (p .split) in
-        let fa = ha .found (p .q .file) (p .s₁) (rw es (p .file)) in
-        let fz = hz .found (p .q .size) (p .s₂) (rw (fa .1) (p .size)) in
-        let fd = hd .found (p .q .cost) (p .s₃) (rw (fz .1) (p .cost)) in
-        record {
-          file = rw (← eq, fa .0) (omega (arith, ltb-true (p .q .file) c (p .file-in), one-to catalogueMost c hc));
-          size = rw (← eq, fz .0) (omega (arith, one-to sizeMost (p .q .size) (p .size-in)));
-          cost = rw (← eq, fd .0) (omega (arith, leb-true (p .q .cost) costMost (p .cost-in)));
-          rest = rw (← el, fd .1) (p .rest);
-        }
+three part at a z d ha hz hd = record {
+  first = λ n c q l hc e.
+      let p = first-at part at n c l q e in
+      let eq : p .q ≡ q = cc (p .split) in
+      let el : p .after ≡ l = cc (p .split) in
+      let size-at : decode (drop (a .next) part) ≡ num (p .q .size) (p .s₂) = rw (one-rest (p .file) (ha .spelt)) (p .size) in
+      let cost-at : decode (drop (z .next) part) ≡ num (p .q .cost) (p .s₃) = rw (one-rest size-at (hz .spelt)) (p .cost) in
+      record {
+        file = rw (← eq, one-value (p .file) (ha .spelt)) (omega (arith, ltb-true (p .q .file) c (p .file-in), one-to catalogueMost c hc));
+        size = rw (← eq, one-value size-at (hz .spelt)) (omega (arith, one-to sizeMost (p .q .size) (p .size-in)));
+        cost = rw (← eq, one-value cost-at (hd .spelt)) (omega (arith, leb-true (p .q .cost) costMost (p .cost-in)));
+        rest = rw (← el, one-rest cost-at (hd .spelt)) (p .rest);
+      };
+}
 
 -- the settings and their bytes
 pub record Five (s : List ℕ) (st : Settings) (rest : List ℕ) : Type 0 where

@@ -37,10 +37,15 @@ taken g b =
     (pick (eqb b 0) (pick (eqb (g .count) 0) (Last (with-group g b)) Bad) (Last (with-group g b)))
     (pick (eqb (g .count) 5) Bad (More (record { value = with-group g b; scale = g .scale * 128; count = g .count + 1 })))
 
--- r is the number at a place of the bytes, where there is one, with the place after it
+-- there is a number at a place of the bytes
+pub record Numbered (part : List ℕ) (at : ℕ) : Type 0 where
+  pub value : ℕ
+  pub rest : List ℕ
+  pub spelt : decode (drop at part) ≡ num value rest
+
+-- r is the number at a place of the bytes, with the place after it
 pub record NumberAt (part : List ℕ) (at : ℕ) (r : Number) : Type 0 where
-  pub inside : r .next ≤ length part
-  pub found : (v : ℕ) (rest : List ℕ) → decode (drop at part) ≡ num v rest → (r .value ≡ v) × (drop (r .next) part ≡ rest)
+  pub spelt : decode (drop at part) ≡ num (r .value) (drop (r .next) part)
 
 -- r is the request q, and l are the requests after it
 pub record First (part : List ℕ) (n catalogue : ℕ) (r : Taken) (q : Request) (l : List Request) : Type 0 where
@@ -49,9 +54,16 @@ pub record First (part : List ℕ) (n catalogue : ℕ) (r : Taken) (q : Request)
   pub cost : r .cost ≡ q .cost
   pub rest : readOf n catalogue (drop (r .next) part) ≡ good l
 
--- r is the request at a place of the bytes, where there is one, with the place after it
+-- there is a request at a place of the bytes
+pub record Requested (part : List ℕ) (at : ℕ) : Type 0 where
+  pub n : ℕ
+  pub catalogue : ℕ
+  pub q : Request
+  pub after : List Request
+  pub reads : readOf n catalogue (drop at part) ≡ good (q ∷ after)
+
+-- r is the request at a place of the bytes, with the place after it, whatever the catalogue
 pub record RequestAt (part : List ℕ) (at : ℕ) (r : Taken) : Type 0 where
-  pub inside : r .next ≤ length part
   pub first : (n catalogue : ℕ) (q : Request) (l : List Request) → isCatalogue catalogue ≡ true → readOf n catalogue (drop at part) ≡ good (q ∷ l) → First part n catalogue r q l
 
 -- what the checking pass answers, after k requests counted already

@@ -1,8 +1,6 @@
 // House numbers: groups of seven bits, lowest group first, top bit set on every group but the last.
 ghost use mathlib.Core.Path.{_≡_};
-ghost use Prim.Native.Nat.{_≤_};
-ghost use lib.ListN.{length};
-ghost use Rattle.trace.specs.Steps.{Fine, taken, NumberAt};
+ghost use Rattle.trace.specs.Steps.{Fine, taken, Numbered, NumberAt};
 
 // A number in the course of being read.
 pub struct Group {
@@ -49,36 +47,24 @@ pub struct Number {
     pub next: usize,
 }
 
-// The number at a place, where there is one.
+// The number at a place where there is one: what the checking pass has judged is not judged again.
 pub(crate) fn number_at(part: &[u8], at: usize) -> Number
-    requires { ⌜ at ≤ length (now part) ⌝ }
+    requires { ⌜ Numbered (now part) at ⌝ }
     ensures { λ r. ⌜ NumberAt (now (part .entry)) at r ⌝ }
 {
     let mut i = at;
-    let mut g = Group {
-        value: 0,
-        scale: 1,
-        count: 0,
-    };
+    let mut value: u64 = 0;
+    let mut scale: u64 = 1;
     loop {
-        if i == part.len() {
-            return Number { value: 0, next: i };
+        let b = part[i];
+        value += (b % 128) as u64 * scale;
+        i += 1;
+        if b < 128 {
+            return Number {
+                value: value,
+                next: i,
+            };
         }
-        let next = take_group(g, part[i]);
-        match next {
-            Next::Bad => {
-                return Number { value: 0, next: i };
-            }
-            Next::More(h) => {
-                g = h;
-                i += 1;
-            }
-            Next::Last(value) => {
-                return Number {
-                    value: value,
-                    next: i + 1,
-                };
-            }
-        }
+        scale *= 128;
     }
 }

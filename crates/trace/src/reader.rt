@@ -15,7 +15,7 @@ ghost use lib.ListN.{length, drop};
 ghost use Rattle.amounts.specs.Limits.{isCatalogue};
 ghost use Rattle.trace.specs.Fields.{inRequest};
 ghost use Rattle.trace.specs.Reading.{readOf, rows};
-ghost use Rattle.trace.specs.Steps.{RequestAt, counted, Ready, ReadFrom};
+ghost use Rattle.trace.specs.Steps.{Requested, RequestAt, counted, Ready, ReadFrom};
 ghost use Rattle.trace.specs.Promise.{Over, ReadPart};
 
 // Whether the value of a request's field is in its range.
@@ -92,9 +92,9 @@ pub struct Taken {
     pub next: usize,
 }
 
-// The request at a place, where there is one.
+// The request at a place where there is one.
 pub fn request_at(part: &[u8], at: usize) -> Taken
-    requires { ⌜ at ≤ length (now part) ⌝ }
+    requires { ⌜ Requested (now part) at ⌝ }
     ensures { λ r. ⌜ RequestAt (now (part .entry)) at r ⌝ }
 {
     let file = number_at(part, at);

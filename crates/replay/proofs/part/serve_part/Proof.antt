@@ -6,7 +6,7 @@ use borrow.Author.Needs.{needs}
 use lib.ListN.{length}
 use Rattle.tables.specs.Tables.{tables}
 use Rattle.shelving.proofs.Dropping.{SameLengths, same-lengths}
-use Rattle.replay.proofs.Walking.{Walk, walk-first, walk-servable, walk-more, walk-end}
+use Rattle.replay.proofs.Walking.{Walk, walk-first, walk-there, walk-servable, walk-more, walk-end}
 use Rattle.replay.proofs.part.serve_part.Statement.{statement}
 use Rattle.replay.proofs.part.serve_part.Tie as tie
 
@@ -23,7 +23,7 @@ loop-holds : tie.Need-loop-holds Inv-loop μ-loop
 loop-holds c = (walk-first _ _ _ _ _ _ _ (c .before .before .before .before .before .before .before .before .before .before .before .before .pre), same-lengths _, refl, refl, refl)
 
 request-at-requires : tie.Need-request-at-requires Inv-loop μ-loop
-request-at-requires c κs = c .before .loop .inv .0 .inside
+request-at-requires c κs = walk-there _ _ _ _ _ _ _ _ _ _ _ _ _ (c .before .loop .inv .0) (c .loop-test .taken)
 
 wide32-requires : tie.Need-wide32-requires Inv-loop μ-loop
 wide32-requires c κs = search needs

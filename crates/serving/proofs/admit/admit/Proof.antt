@@ -1,4 +1,4 @@
--- `replay::admit::admit` meets its contract. Assumes nothing.
+-- `serving::admit::admit` meets its contract. Assumes nothing.
 use Prim.Native.Nat.{ℕ, _+_, _<_}
 use mathlib.Core.Path.{_≡_, refl, ap, _∙_}
 use native.Mathlib.Omega.{arith}

@@ -1,4 +1,4 @@
--- `replay::admit::enter` meets its contract. Assumes nothing.
+-- `serving::admit::enter` meets its contract. Assumes nothing.
 use Prim.Native.Nat.{_+_, _-_, _<_, _≤_}
 use mathlib.Core.Path.{_≡_, refl, ap, _∙_}
 use native.Mathlib.Omega.{arith}

@@ -1,4 +1,4 @@
--- `replay::serve::serve` meets its contract. Assumes nothing.
+-- `serving::request::serve` meets its contract. Assumes nothing.
 use Prim.Native.Nat.{ℕ, _<_}
 use mathlib.Core.Path.{_≡_, refl, ap, _∙_}
 use native.Mathlib.Omega.{arith}

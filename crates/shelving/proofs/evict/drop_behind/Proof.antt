@@ -1,4 +1,4 @@
--- `replay::evict::drop_behind` meets its contract. Assumes nothing.
+-- `shelving::evict::drop_behind` meets its contract. Assumes nothing.
 use Prim.Native.Nat.{ℕ, _<_, _-_}
 use mathlib.Core.Path.{ap, _∙_}
 use native.Mathlib.Omega.{arith}

@@ -1,4 +1,4 @@
--- `replay::evict::tell` meets its contract. Assumes nothing.
+-- `shelving::evict::tell` meets its contract. Assumes nothing.
 use Prim.Native.Nat.{ℕ, _<_, _-_}
 use mathlib.Core.Path.{_≡_, ap, _∙_}
 use native.Mathlib.Omega.{arith}

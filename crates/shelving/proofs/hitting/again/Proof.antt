@@ -1,4 +1,4 @@
--- `replay::hit::again` meets its contract. Assumes nothing.
+-- `shelving::hitting::again` meets its contract. Assumes nothing.
 use mathlib.Core.Path.{sym}
 use borrow.Author.Needs.{needs}
 use Rattle.shelving.proofs.Hits.{again-once, again-more}

@@ -1,4 +1,4 @@
--- `replay::hit::hit` meets its contract. Assumes nothing.
+-- `shelving::hitting::hit` meets its contract. Assumes nothing.
 use Prim.Native.Nat.{ℕ, _+_}
 use mathlib.Core.Path.{_≡_, ap, _∙_}
 use native.Mathlib.Omega.{arith}

@@ -1,4 +1,4 @@
--- `replay::keep::keep` meets its contract. Assumes nothing.
+-- `shelving::keeping::keep` meets its contract. Assumes nothing.
 use mathlib.Core.Path.{sym, ap, subst₂}
 use borrow.Author.Needs.{needs}
 use Rattle.queue.specs.Queue.{Insertable}

@@ -1,63 +1,49 @@
--- `trace::number::number_at` meets its contract. Assumes nothing.
-use Prim.Native.Nat.{_-_, _≤_}
-use mathlib.Core.Path.{refl, sym, _∙_}
-use borrow.Author.Needs.{needs}
+-- `trace::number::number_at` meets its contract: after k groups the number at the place is pending. Assumes nothing.
+use Prim.Native.Nat.{ℕ, _+_, _-_}
 use native.Mathlib.Omega.{arith}
-use lib.ListN.{length}
-use Rattle.trace.proofs.Groups.{Pending, pending-first, pending-end, pending-bad, pending-more, pending-last}
+use borrow.Author.Needs.{needs}
+use lib.ListN.{length, getD}
+use Rattle.trace.proofs.Groups.{Pending, pending-first, pending-inside, pending-on, pending-last, product-fits, value-fits, scale-fits}
 use Rattle.trace.proofs.number.number_at.Statement.{statement}
 use Rattle.trace.proofs.number.number_at.Tie as tie
 
 abbrev Inv-loop : tie.InvT-loop
-Inv-loop part at i₀ g₀ i g = (i ≤ length part) × Pending part at i g
+Inv-loop part at i₀ value₀ scale₀ i value scale = (k : ℕ) × Pending part at i (record { value = value; scale = scale; count = k })
 
 abbrev μ-loop : tie.MeasureT-loop
-μ-loop part at i₀ g₀ i g = length part - i
+μ-loop part at i₀ value₀ scale₀ i value scale = length part - i
 
 loop-holds : tie.Need-loop-holds Inv-loop μ-loop
-loop-holds c = (c .before .pre, pending-first _ _)
+loop-holds c = (0, pending-first _ _)
 
-returns : tie.Need-returns Inv-loop μ-loop
-returns c = pending-end _ _ _ _ (c .before .loop .inv .1) (c .if1 .taken) _ (omega arith)
+shared-slice-read-b : tie.Need-shared-slice-read-b Inv-loop μ-loop
+shared-slice-read-b c = pending-inside _ _ (c .before .before .pre) _ _ (c .before .loop .inv .1)
 
-shared-slice-read-take-group : tie.Need-shared-slice-read-take-group Inv-loop μ-loop
-shared-slice-read-take-group c = omega arith
+cast-value : tie.Need-cast-value Inv-loop μ-loop
+cast-value c = search needs
 
-take-group-requires : tie.Need-take-group-requires Inv-loop μ-loop
-take-group-requires c κs = c .before .before .loop .inv .1 .fine
+mul-value : tie.Need-mul-value Inv-loop μ-loop
+mul-value c = omega (arith, product-fits _ (c .before .loop .inv .1 .fine) (getD (c .before .before .args .part .now) (c .before .loop .i) 0))
 
-enum-told : tie.Need-enum-told Inv-loop μ-loop
-enum-told c = search needs
-
-returns-2 : tie.Need-returns-2 Inv-loop μ-loop
-returns-2 c =
-    let q = c .before .before .before .before .before in
-    pending-bad _ _ _ _ (q .loop .inv .1) (omega arith) (sym (c .before .before .take-group .ensures) ∙ c .enum-told .given .1) _ (omega arith)
-
-enum-known-next : tie.Need-enum-known-next Inv-loop μ-loop
-enum-known-next c = search needs
+add-value : tie.Need-add-value Inv-loop μ-loop
+add-value c = omega (arith, value-fits _ (c .before .loop .inv .1 .fine) (getD (c .before .before .args .part .now) (c .before .loop .i) 0))
 
 add-i : tie.Need-add-i Inv-loop μ-loop
-add-i c = omega arith
+add-i c = omega (arith, pending-inside _ _ (c .before .before .pre) _ _ (c .before .loop .inv .1))
+
+returns : tie.Need-returns Inv-loop μ-loop
+returns c = pending-last _ _ (c .before .before .before .pre) _ _ (c .before .before .loop .inv .1) (c .if1 .taken)
+
+mul-scale : tie.Need-mul-scale Inv-loop μ-loop
+mul-scale c = omega (arith, scale-fits _ (c .before .before .loop .inv .1 .fine) 0)
 
 loop-less : tie.Need-loop-less Inv-loop μ-loop
-loop-less c = omega arith
+loop-less c = omega (arith, pending-inside _ _ (c .before .before .before .pre) _ _ (c .before .before .loop .inv .1))
 
 loop-again : tie.Need-loop-again Inv-loop μ-loop
 loop-again c =
-    let q = c .before .before .before .before .before .before in
-    (omega arith, pending-more _ _ _ _ (q .loop .inv .1) (omega arith) _ (sym (c .before .before .before .take-group .ensures) ∙ c .before .next .given .1))
-
-enum-known-next-2 : tie.Need-enum-known-next-2 Inv-loop μ-loop
-enum-known-next-2 c = search needs
-
-add-t12 : tie.Need-add-t12 Inv-loop μ-loop
-add-t12 c = omega arith
-
-returns-3 : tie.Need-returns-3 Inv-loop μ-loop
-returns-3 c =
-    let q = c .before .before .before .before .before .before in
-    pending-last _ _ _ _ (q .loop .inv .1) (omega arith) _ refl (sym (c .before .before .before .take-group .ensures) ∙ c .before .next2 .given .1)
+    let w = c .before .before .loop .inv in
+    (w .0 + 1, pending-on _ _ (c .before .before .before .pre) _ _ (w .1) (c .if1 .left))
 
 pub number-at-spec : {M : Type 1} → statement M
 number-at-spec =
@@ -66,15 +52,12 @@ number-at-spec =
     Inv-loop
     μ-loop
     loop-holds
-    returns
-    shared-slice-read-take-group
-    take-group-requires
-    enum-told
-    returns-2
-    enum-known-next
+    shared-slice-read-b
+    cast-value
+    mul-value
+    add-value
     add-i
+    returns
+    mul-scale
     loop-less
-    loop-again
-    enum-known-next-2
-    add-t12
-    returns-3)
+    loop-again)

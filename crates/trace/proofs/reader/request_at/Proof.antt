@@ -1,17 +1,17 @@
 -- `trace::reader::request_at` meets its contract. Assumes nothing.
 use borrow.Author.Needs.{needs}
-use Rattle.trace.proofs.Taking.{three}
+use Rattle.trace.proofs.Taking.{file-there, size-there, cost-there, three}
 use Rattle.trace.proofs.reader.request_at.Statement.{statement}
 use Rattle.trace.proofs.reader.request_at.Tie as tie
 
 number-at-requires : tie.Need-number-at-requires
-number-at-requires c κs = search needs
+number-at-requires c κs = file-there _ _ (c .before .pre)
 
 number-at-requires-2 : tie.Need-number-at-requires-2
-number-at-requires-2 c κs = search needs
+number-at-requires-2 c κs = size-there _ _ (c .before .before .pre) _ (c .number-at .ensures)
 
 number-at-requires-3 : tie.Need-number-at-requires-3
-number-at-requires-3 c κs = search needs
+number-at-requires-3 c κs = cost-there _ _ (c .before .before .before .pre) _ (c .before .number-at .ensures) _ (c .number-at2 .ensures)
 
 cast-t9 : tie.Need-cast-t9
 cast-t9 c = search needs
