@@ -5,7 +5,7 @@ use bench::random::Random;
 use crate::{agree, craft, make, Verdict};
 
 /// Damages the bytes once or twice.
-fn damage(random: &mut Random, bytes: &mut Vec<u8>) {
+pub fn damage(random: &mut Random, bytes: &mut Vec<u8>) {
     damage_once(random, bytes);
     if random.one_in(3) {
         damage_once(random, bytes);

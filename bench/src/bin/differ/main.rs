@@ -1,4 +1,5 @@
-//! Compares the library with the model over the boundary: `differ [CASES [SEED]]`.
+//! Compares the library with the model over the boundary, and the program's sheets with the model's where it is named:
+//! `differ [CASES [SEED [PROGRAM]]]`.
 
 mod agree;
 mod craft;
@@ -8,12 +9,14 @@ mod fresh;
 mod make;
 mod order;
 mod pieces;
+mod printed;
 mod runs;
 mod sheets;
 mod soundness;
 mod traces;
 
 use std::io::Write;
+use std::path::PathBuf;
 use std::process::ExitCode;
 
 use bench::model::red_card::Answer;
@@ -68,19 +71,26 @@ const KINDS: [Kind; 23] = [
     },
 ];
 
+/// Only where a program is named.
+const PRINTED: Kind = kind("sheets that the program prints", printed::all);
+
 const DEFAULT_CASES: u64 = 400;
 const DEFAULT_SEED: u64 = 7;
 
 fn main() -> ExitCode {
-    let mut arguments = std::env::args().skip(1).map(|text| text.parse::<u64>());
-    let cases = arguments.next().unwrap_or(Ok(DEFAULT_CASES));
-    let seed = arguments.next().unwrap_or(Ok(DEFAULT_SEED));
-    let (Ok(cases), Ok(seed), None) = (cases, seed, arguments.next()) else {
-        eprintln!("differ [CASES [SEED]]");
+    let mut arguments = std::env::args().skip(1);
+    let mut number = |missing| arguments.next().map_or(Ok(missing), |text| text.parse());
+    let (Ok(cases), Ok(seed)) = (number(DEFAULT_CASES), number(DEFAULT_SEED)) else {
+        eprintln!("differ [CASES [SEED [PROGRAM]]]");
         return ExitCode::from(2);
     };
+    let program = arguments.next().map(PathBuf::from);
+    let printed = program.map(|path| {
+        printed::PROGRAM.get_or_init(|| path);
+        &PRINTED
+    });
     println!("seed {seed}");
-    for (number, kind) in KINDS.iter().enumerate() {
+    for (number, kind) in KINDS.iter().chain(printed).enumerate() {
         if let Err(difference) = run_kind(kind, number as u64, cases, seed) {
             println!("DIFFERENCE at {difference}");
             return ExitCode::FAILURE;

@@ -6,7 +6,8 @@ use bench::random::Random;
 
 use crate::{agree, make, Verdict};
 
-pub fn valid(random: &mut Random) -> Verdict {
+/// A good file, now and then with settings or a length at the program's limits.
+pub fn good_file(random: &mut Random) -> Vec<u8> {
     let mut settings = make::settings(random);
     if random.one_in(20) {
         settings.places = random.between(500, 520);
@@ -18,6 +19,11 @@ pub fn valid(random: &mut Random) -> Verdict {
     if random.one_in(20) {
         fill(random, &mut file);
     }
+    file
+}
+
+pub fn valid(random: &mut Random) -> Verdict {
+    let file = good_file(random);
     let needed = sheet(&file).len();
     let mut answers = Vec::new();
     for length in [needed - 1, needed, needed + 5] {
