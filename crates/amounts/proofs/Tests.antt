@@ -1,11 +1,11 @@
 -- Tests and what they decide: the ways through a `pick`, the range test, cases on two numbers. Assumes nothing.
 use mathlib.Core.Path.{_≡_, refl, sym, _∙_}
-use mathlib.Core.Logic.{_⊎_, inl, inr}
+use mathlib.Core.Logic.{_⊎_, inl, inr, ⊎-elim}
 use mathlib.Core.Bool.{Bool, true, false, not}
-use Prim.Native.Nat.{ℕ, _≤_, _<_}
+use Prim.Native.Nat.{ℕ, _+_, _-_, _≤_, _<_}
 use native.Mathlib.Omega.{arith}
 use lib.Dec.{leb, ltb, eqb}
-use borrow.Author.Tests.{ltb-true, ltb-false, leb-true, eqb-true, eqb-false, le-ltb, le-leb, not-true, not-false}
+use borrow.Author.Tests.{ltb-true, ltb-false, leb-true, eqb-true, eqb-false, le-ltb, le-leb, lt-leb, not-true, not-false}
 use Rattle.amounts.specs.Limits.{pick, oneTo}
 
 -- what a call ensures of its result, and what a branch learnt of it
@@ -51,3 +51,9 @@ one-to m n e = go (ltb n 1) refl e
     go : (t : Bool) → ltb n 1 ≡ t → pick t false (leb n m) ≡ true → (1 ≤ n) × (n ≤ m)
     go true h e = let z : _≡_ {A = ℕ} 0 1 = cc in absurd (omega arith)
     go false h e = (ltb-false n 1 h, leb-true n m e)
+
+-- what is left is enough exactly where both together are
+pub leb-minus : (a b m : ℕ) → a ≤ m → leb b (m - a) ≡ leb (a + b) m
+leb-minus a b m h =
+    ⊎-elim (λ g. lt-leb b (m - a) (omega arith) ∙ sym (lt-leb (a + b) m g)) (λ g. le-leb b (m - a) (omega arith) ∙ sym (le-leb (a + b) m g))
+    (below m (a + b))

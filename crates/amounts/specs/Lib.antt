@@ -4,4 +4,3 @@ pub mod Worth
 pub mod Order
 pub mod Settings
 pub mod Requests
-pub mod Made

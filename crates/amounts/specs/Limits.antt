@@ -1,6 +1,6 @@
 -- The limits of document 01, "Numbers": each has this one name. Assumes nothing.
-use Prim.Native.Nat.{ℕ}
-use mathlib.Core.Bool.{Bool, true, false}
+use Prim.Native.Nat.{ℕ, _*_}
+use mathlib.Core.Bool.{Bool, true, false, _&&_}
 use lib.Dec.{leb, ltb}
 
 -- a or b, by a test
@@ -64,3 +64,7 @@ isSize n = oneTo sizeMost n
 
 abbrev pub isCost : ℕ → Bool
 isCost n = leb n costMost
+
+-- document 01, "Tables and the tally": n files, each at least 1 and at most m, can come to a total: n ≤ total ≤ n × m
+unfoldable pub totalOf : ℕ → ℕ → ℕ → Bool
+totalOf m n total = leb n total && leb total (n * m)

@@ -1,7 +1,7 @@
 -- Worth, frequency × worth and the cost in force (document 01, "Numbers"). Assumes nothing.
 use Prim.Native.Nat.{ℕ, _+_, _*_, _/_, _≤_}
 use lib.Dec.{eqb}
-use Rattle.amounts.specs.Limits.{pick, sizeMost, costMost, requestsMost}
+use Rattle.amounts.specs.Limits.{pick, sizeMost, costMost}
 
 -- document 01, "Worth": cost × 16,777,216 / size, rounded down
 abbrev pub scale : ℕ
@@ -32,7 +32,3 @@ pub record Valued (size cost : ℕ) : Type 0 where
   pub size-most : size ≤ sizeMost
   pub cost-least : 1 ≤ cost
   pub cost-most : cost ≤ costMost
-
--- the largest key that a run can reach
-abbrev pub keyMost : ℕ
-keyMost = requestsMost * worthMost

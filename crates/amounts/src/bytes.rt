@@ -1,16 +1,13 @@
 // A byte count: the size of a file, the capacity of a store, and sums of sizes.
 use crate::range::one_to;
+use crate::range::total_of;
 ghost use mathlib.Core.Path.{_≡_};
-ghost use Prim.Native.Nat.{_+_, _<_};
-ghost use Rattle.amounts.specs.Limits.{isSize, isCapacity, word};
-ghost use Rattle.amounts.specs.Made.{sizeOf, capacityOf};
+ghost use mathlib.Core.Bool.{true};
+ghost use Prim.Native.Nat.{_+_, _-_, _<_, _≤_};
+ghost use lib.Dec.{leb, eqb};
+ghost use Rattle.amounts.specs.Limits.{isSize, isCapacity, sizeMost, requestsMost, word, totalOf};
 
 pub struct Bytes(pub u64);
-
-pub enum MaybeBytes {
-    Is(Bytes),
-    OutOfRange,
-}
 
 impl Bytes {
     pub const SIZE_MOST: u64 = 16777215;
@@ -31,24 +28,12 @@ impl Bytes {
         one_to(Bytes::CAPACITY_MOST, n)
     }
 
-    // The size of a file.
-    pub fn size(n: u64) -> MaybeBytes
-        ensures { λ r. ⌜ r ≡ sizeOf n ⌝ }
+    // The size of a file, of a number that was found in range.
+    pub fn size(n: u64) -> Bytes
+        requires { ⌜ isSize n ≡ true ⌝ }
+        ensures { λ r. ⌜ r .0 ≡ n ⌝ }
     {
-        if Bytes::is_size(n) {
-            return MaybeBytes::Is(Bytes(n));
-        }
-        MaybeBytes::OutOfRange
-    }
-
-    // The capacity of a store.
-    pub fn capacity(n: u64) -> MaybeBytes
-        ensures { λ r. ⌜ r ≡ capacityOf n ⌝ }
-    {
-        if Bytes::is_capacity(n) {
-            return MaybeBytes::Is(Bytes(n));
-        }
-        MaybeBytes::OutOfRange
+        Bytes(n)
     }
 
     // Two byte counts together.
@@ -57,5 +42,35 @@ impl Bytes {
         ensures { λ r. ⌜ r .0 ≡ self .0 + more .0 ⌝ }
     {
         Bytes(self.0 + more.0)
+    }
+
+    // What is left of a byte count.
+    pub fn minus(self, less: Bytes) -> Bytes
+        requires { ⌜ less .0 ≤ self .0 ⌝ }
+        ensures { λ r. ⌜ r .0 ≡ self .0 - less .0 ⌝ }
+    {
+        Bytes(self.0 - less.0)
+    }
+
+    // Whether a byte count is no more than another.
+    pub fn at_most(self, most: Bytes) -> bool
+        ensures { λ r. ⌜ r ≡ leb (self .0) (most .0) ⌝ }
+    {
+        self.0 <= most.0
+    }
+
+    // Whether two byte counts are the same.
+    pub fn same(self, other: Bytes) -> bool
+        ensures { λ r. ⌜ r ≡ eqb (self .0) (other .0) ⌝ }
+    {
+        self.0 == other.0
+    }
+
+    // Whether so many files can have so many bytes.
+    pub fn is_total_of(self, files: u64) -> bool
+        requires { ⌜ files ≤ requestsMost ⌝ }
+        ensures { λ r. ⌜ r ≡ totalOf sizeMost files (self .0) ⌝ }
+    {
+        total_of(Bytes::SIZE_MOST, files, self.0)
     }
 }

@@ -1,18 +1,14 @@
 // The cost of fetching a file, and sums of costs.
 use crate::bytes::Bytes;
+use crate::range::total_of;
 ghost use mathlib.Core.Path.{_≡_};
 ghost use mathlib.Core.Bool.{true};
-ghost use Prim.Native.Nat.{_+_, _<_};
-ghost use Rattle.amounts.specs.Limits.{isCost, isSize, word};
-ghost use Rattle.amounts.specs.Made.{costOf};
+ghost use Prim.Native.Nat.{_+_, _<_, _≤_};
+ghost use lib.Dec.{leb};
+ghost use Rattle.amounts.specs.Limits.{isCost, isSize, costMost, requestsMost, word, totalOf};
 ghost use Rattle.amounts.specs.Worth.{inForce};
 
 pub struct Cost(pub u64);
-
-pub enum MaybeCost {
-    Is(Cost),
-    OutOfRange,
-}
 
 impl Cost {
     pub const MOST: u64 = 65535;
@@ -28,14 +24,12 @@ impl Cost {
         n <= Cost::MOST
     }
 
-    // The cost in a request.
-    pub fn asked(n: u64) -> MaybeCost
-        ensures { λ r. ⌜ r ≡ costOf n ⌝ }
+    // The cost of a request, of a number that was found in range.
+    pub fn asked(n: u64) -> Cost
+        requires { ⌜ isCost n ≡ true ⌝ }
+        ensures { λ r. ⌜ r .0 ≡ n ⌝ }
     {
-        if Cost::is_cost(n) {
-            return MaybeCost::Is(Cost(n));
-        }
-        MaybeCost::OutOfRange
+        Cost(n)
     }
 
     // The cost in force: the packet estimate stands in for 0.
@@ -55,5 +49,20 @@ impl Cost {
         ensures { λ r. ⌜ r .0 ≡ self .0 + more .0 ⌝ }
     {
         Cost(self.0 + more.0)
+    }
+
+    // Whether a cost is no more than another.
+    pub fn at_most(self, most: Cost) -> bool
+        ensures { λ r. ⌜ r ≡ leb (self .0) (most .0) ⌝ }
+    {
+        self.0 <= most.0
+    }
+
+    // Whether so many files can cost so much.
+    pub fn is_total_of(self, files: u64) -> bool
+        requires { ⌜ files ≤ requestsMost ⌝ }
+        ensures { λ r. ⌜ r ≡ totalOf costMost files (self .0) ⌝ }
+    {
+        total_of(Cost::MOST, files, self.0)
     }
 }

@@ -2,34 +2,25 @@
 use crate::bytes::Bytes;
 use crate::cost::Cost;
 ghost use mathlib.Core.Path.{_≡_};
-ghost use Prim.Native.Nat.{_+_, _<_, _≤_};
+ghost use Prim.Native.Nat.{_+_, _-_, _*_, _<_, _≤_};
+ghost use lib.Dec.{leb};
 ghost use Rattle.amounts.specs.Limits.{requestsMost, word};
-ghost use Rattle.amounts.specs.Made.{keyOf};
-ghost use Rattle.amounts.specs.Worth.{worthOf, productOf, Valued};
+ghost use Rattle.amounts.specs.Worth.{worthOf, worthMost, productOf, Valued};
 ghost use Rattle.amounts.specs.Order.{lowerOf};
 
 pub struct Key(pub u64);
-
-pub enum MaybeKey {
-    Is(Key),
-    OutOfRange,
-}
 
 impl Key {
     pub const SCALE: u64 = 16777216;
 
     pub const WORTH_MOST: u64 = 1099494850560;
 
-    pub const MOST: u64 = 1152903912420802560;
-
-    // A key that a run can reach: no more than the largest worth for each request.
-    pub fn new(n: u64) -> MaybeKey
-        ensures { λ r. ⌜ r ≡ keyOf n ⌝ }
+    // The most that inflation and keys can come to in so many requests: the largest worth for each.
+    pub fn most(requests: u64) -> Key
+        requires { ⌜ requests ≤ requestsMost ⌝ }
+        ensures { λ r. ⌜ r .0 ≡ requests * worthMost ⌝ }
     {
-        if n <= Key::MOST {
-            return MaybeKey::Is(Key(n));
-        }
-        MaybeKey::OutOfRange
+        Key(requests * Key::WORTH_MOST)
     }
 
     // The key of a file: inflation and what the file adds to it.
@@ -38,6 +29,21 @@ impl Key {
         ensures { λ r. ⌜ r .0 ≡ self .0 + more .0 ⌝ }
     {
         Key(self.0 + more.0)
+    }
+
+    // How far a key stands above another.
+    pub fn minus(self, less: Key) -> Key
+        requires { ⌜ less .0 ≤ self .0 ⌝ }
+        ensures { λ r. ⌜ r .0 ≡ self .0 - less .0 ⌝ }
+    {
+        Key(self.0 - less.0)
+    }
+
+    // Whether a key is no more than another.
+    pub fn at_most(self, most: Key) -> bool
+        ensures { λ r. ⌜ r ≡ leb (self .0) (most .0) ⌝ }
+    {
+        self.0 <= most.0
     }
 }
 

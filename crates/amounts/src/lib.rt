@@ -1,4 +1,4 @@
-// The quantities of document 01, "Numbers": each a type of its own, with its limits, its range test and its constructor.
+// The quantities of document 01, "Numbers": each a type of its own, with its limits, its range test, and all that is added, taken away or compared.
 mod bytes;
 mod cost;
 mod key;
@@ -6,11 +6,8 @@ mod range;
 mod settings;
 
 pub use bytes::Bytes;
-pub use bytes::MaybeBytes;
 pub use cost::Cost;
-pub use cost::MaybeCost;
 pub use key::Key;
-pub use key::MaybeKey;
 pub use key::lower;
 pub use key::product;
 pub use key::worth;

@@ -2,7 +2,9 @@
 use crate::bytes::Bytes;
 use crate::range::one_to;
 ghost use mathlib.Core.Path.{_≡_};
-ghost use Rattle.amounts.specs.Limits.{isUnit, isPolicy, isPlaces, isCatalogue};
+ghost use Prim.Native.Nat.{_+_, _≤_};
+ghost use lib.Dec.{leb, eqb};
+ghost use Rattle.amounts.specs.Limits.{isUnit, isPolicy, isPlaces, isCatalogue, requestsMost};
 ghost use Rattle.amounts.specs.Settings.{inRange};
 
 // The box that a run belongs to.
@@ -15,6 +17,20 @@ impl Unit {
         ensures { λ r. ⌜ r ≡ isUnit n ⌝ }
     {
         n <= Unit::MOST
+    }
+
+    // Whether the unit is in its range.
+    pub fn in_range(self) -> bool
+        ensures { λ r. ⌜ r ≡ isUnit (self .0) ⌝ }
+    {
+        Unit::is_unit(self.0)
+    }
+
+    // Whether two units are the same.
+    pub fn same(self, other: Unit) -> bool
+        ensures { λ r. ⌜ r ≡ eqb (self .0) (other .0) ⌝ }
+    {
+        self.0 == other.0
     }
 }
 
@@ -31,6 +47,13 @@ impl Policy {
     {
         one_to(Policy::SIZE_FREQUENCY, n)
     }
+
+    // Whether the policy is GreedyDual-Size, which counts no frequency.
+    pub fn without_frequency(self) -> bool
+        ensures { λ r. ⌜ r ≡ eqb (self .0) 1 ⌝ }
+    {
+        self.0 == Policy::SIZE
+    }
 }
 
 // How many files are kept at once.
@@ -46,6 +69,13 @@ impl Places {
     {
         one_to(Places::MOST, n)
     }
+
+    // The places as the length of a table.
+    pub fn count(self) -> usize
+        ensures { λ r. ⌜ r ≡ self .0 ⌝ }
+    {
+        self.0 as usize
+    }
 }
 
 // How many file numbers there are.
@@ -59,6 +89,13 @@ impl Catalogue {
     {
         one_to(Catalogue::MOST, n)
     }
+
+    // The catalogue as the length of a table.
+    pub fn count(self) -> usize
+        ensures { λ r. ⌜ r ≡ self .0 ⌝ }
+    {
+        self.0 as usize
+    }
 }
 
 // How many requests a run has served.
@@ -66,6 +103,21 @@ pub struct Requests(pub u64);
 
 impl Requests {
     pub const MOST: u64 = 1048576;
+
+    // Whether a run may have served so many.
+    pub fn in_range(self) -> bool
+        ensures { λ r. ⌜ r ≡ leb (self .0) requestsMost ⌝ }
+    {
+        self.0 <= Requests::MOST
+    }
+
+    // Whether a run may serve so many more.
+    pub fn leave_room(self, more: u64) -> bool
+        requires { ⌜ self .0 ≤ requestsMost ⌝ }
+        ensures { λ r. ⌜ r ≡ leb (self .0 + more) requestsMost ⌝ }
+    {
+        more <= Requests::MOST - self.0
+    }
 }
 
 pub struct Settings {

@@ -8,32 +8,9 @@ use Rattle.method.specs.Totals.{Totals, counted, Agreed}
 use Rattle.tables.specs.Tally.{totalsOf}
 use Rattle.tables.specs.declared.tally.Tally.{Tally}
 
--- document 01, "Tables and the tally": the tally that stands for a state and totals
-abbrev pub tallied : Tally → method.State → Totals → Tally
-tallied a st y =
-    record {
-      settings = a .settings;
-      inflation = record { 0 = st .inflation };
-      «bytes_kept» = record { 0 = bytes (st .shelf) };
-      «files_kept» = files (st .shelf);
-      requests = y .requests;
-      hits = y .hits;
-      admitted = y .admitted;
-      passed = y .passed;
-      evicted = y .evicted;
-      «bytes_asked» = record { 0 = y .bytes };
-      «hit_bytes» = record { 0 = y .hitBytes };
-      «cost_asked» = record { 0 = y .cost };
-      «hit_cost» = record { 0 = y .hitCost };
-    }
-
--- document 01, "Tables and the tally": the tally after a request
-abbrev pub after : Tally → method.Served method.State → Tally
-after a x = tallied a (x .state) (counted (totalsOf a) (x .reply))
-
 -- document 01, "Tables and the tally": the tally with the totals y, and with inflation, bytes and files kept
-abbrev pub withTotals : Tally → ℕ → ℕ → ℕ → Totals → Tally
-withTotals a l b n y =
+abbrev pub tallied : Tally → ℕ → ℕ → ℕ → Totals → Tally
+tallied a l b n y =
     record {
       settings = a .settings;
       inflation = record { 0 = l };
@@ -49,6 +26,10 @@ withTotals a l b n y =
       «cost_asked» = record { 0 = y .cost };
       «hit_cost» = record { 0 = y .hitCost };
     }
+
+-- document 01, "Tables and the tally": the tally after a request
+abbrev pub after : Tally → method.Served method.State → Tally
+after a x = tallied a (x .state .inflation) (bytes (x .state .shelf)) (files (x .state .shelf)) (counted (totalsOf a) (x .reply))
 
 -- document 01, "Tables and the tally": a hit counts its bytes and its cost twice, as asked and as hit
 abbrev pub hitTotals : Totals → ℕ → ℕ → Totals
@@ -101,15 +82,15 @@ admitTotals y size cost gone = admittedTotals y size cost (y .evicted + gone)
 
 -- document 01, "Tables and the tally": a hit more, with what is kept as it was
 abbrev pub hitTally : Tally → ℕ → ℕ → Tally
-hitTally a size cost = withTotals a (a .inflation .0) (a .«bytes_kept» .0) (a .«files_kept») (hitTotals (totalsOf a) size cost)
+hitTally a size cost = tallied a (a .inflation .0) (a .«bytes_kept» .0) (a .«files_kept») (hitTotals (totalsOf a) size cost)
 
 -- document 01, "Tables and the tally": a pass more, with what is kept as it was
 abbrev pub passTally : Tally → ℕ → ℕ → Tally
-passTally a size cost = withTotals a (a .inflation .0) (a .«bytes_kept» .0) (a .«files_kept») (passTotals (totalsOf a) size cost)
+passTally a size cost = tallied a (a .inflation .0) (a .«bytes_kept» .0) (a .«files_kept») (passTotals (totalsOf a) size cost)
 
 -- document 01, "Tables and the tally": an admission more, with what is kept and what was evicted as it was
 abbrev pub admitTally : Tally → ℕ → ℕ → Tally
-admitTally a size cost = withTotals a (a .inflation .0) (a .«bytes_kept» .0) (a .«files_kept») (admittedTotals (totalsOf a) size cost (a .evicted))
+admitTally a size cost = tallied a (a .inflation .0) (a .«bytes_kept» .0) (a .«files_kept») (admittedTotals (totalsOf a) size cost (a .evicted))
 
 -- document 01, "Tables and the tally": one request more can be counted
 pub record Countable (a : Tally) (size cost : ℕ) : Type 0 where

@@ -36,7 +36,7 @@ use Rattle.replay.specs.Parts.{runFrom, tallyOf, eventsOf}
 use Rattle.replay.specs.Carrying.{Runs, Reads, Judges, Carries}
 use Rattle.replay.specs.declared.carry.Carried.{Carried}
 use Rattle.layout.specs.Sheet.{ownPlaces, ownCatalogue, runOf, ranEvents}
-use Rattle.layout.specs.Steps.{Held, RanOn, Ran}
+use Rattle.layout.specs.Steps.{OwnSized, RanOn, Ran}
 
 -- ---- no part has more requests than bytes
 
@@ -88,7 +88,7 @@ long-cleared p n t k =
 
 -- ---- the run
 
-module _ (s : Settings) (part told : List ℕ) (h : Held s part told) (t : Tables) (k : Long (s .places .0) (s .catalogue .0) t) (d : Started) (u : Tables) (f : Freshly s t d u) where
+module _ (s : Settings) (part told : List ℕ) (h : OwnSized s part told) (t : Tables) (k : Long (s .places .0) (s .catalogue .0) t) (d : Started) (u : Tables) (f : Freshly s t d u) where
   begun : (d ≡ started.Done (freshTally s)) × (u ≡ cleared (s .places .0) (s .catalogue .0) t)
   begun = fresh-done s t d u f (h .given .ranged) (long-is _ _ t k)
 
@@ -127,7 +127,7 @@ module _ (s : Settings) (part told : List ℕ) (h : Held s part told) (t : Table
     ran-own a e y = ran-fresh (subst (λ (b : Tally). Carries b u told r w told′ (s .unit .0) part) e y)
 
 -- tables of the program's own lengths are long enough
-pub own-long : (s : Settings) (part told : List ℕ) → Held s part told → (p c : ℕ) → ownPlaces ≤ p → ownCatalogue ≤ c
+pub own-long : (s : Settings) (part told : List ℕ) → OwnSized s part told → (p c : ℕ) → ownPlaces ≤ p → ownCatalogue ≤ c
     → Long (s .places .0) (s .catalogue .0) (tables (replicate c 0) (replicate p 0) (replicate p 0) (replicate p 0) (replicate p 0) (replicate p 0) (replicate p 0) (replicate p 0))
 own-long s part told h p c i j =
     let l : s .places .0 ≤ length {A = ℕ} (replicate p 0) = omega (arith, h .places, length-replicate {A = ℕ} p 0) in

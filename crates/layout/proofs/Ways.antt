@@ -22,7 +22,7 @@ use Rattle.trace.proofs.RoundTrip.{part-ranged}
 use Rattle.replay.specs.declared.carry.Carried.{Carried}
 use Rattle.layout.specs.Sheet.{inputMost, ownPlaces, ownCatalogue, ownEvents, sheetMost, ranEvents, ofRead, ofFile, sheetOf}
 use Rattle.lines.specs.Lines.{refusedLine, page}
-use Rattle.layout.specs.Steps.{Given, Held, RanOn, Ran, Ample}
+use Rattle.layout.specs.Steps.{Given, OwnSized, RanOn, Ran, Ample}
 use Rattle.lines.specs.Laying.{Copies, Events}
 use Rattle.layout.specs.Promise.{Sheeted}
 use Rattle.lines.proofs.Items.{laid-long}
@@ -43,7 +43,7 @@ refused-room n text a = page-room (refusedLine n) text a (omega (arith, refused-
 pub own-ample : (n : ℕ) → sheetMost ≤ n → Ample (replicate n 0)
 own-ample n h = record { room = omega (arith, h, length-replicate {A = ℕ} n 0) }
 
-pub own-held : (s : Settings) (part : List ℕ) → Given s part → s .places .0 ≤ ownPlaces → s .catalogue .0 ≤ ownCatalogue → Held s part (replicate ownEvents 0)
+pub own-held : (s : Settings) (part : List ℕ) → Given s part → s .places .0 ≤ ownPlaces → s .catalogue .0 ≤ ownCatalogue → OwnSized s part (replicate ownEvents 0)
 own-held s part g p c = record { given = g; places = p; catalogue = c; events = length-replicate {A = ℕ} ownEvents 0 }
 
 -- ---- settings, and the requests after them
@@ -55,7 +55,7 @@ module _ (s : Settings) (part : List ℕ) where
   pub catalogue-beyond : s .places .0 ≤ ownPlaces → ownCatalogue < s .catalogue .0 → ofFile (opened s part) ≡ refusedLine 2
   catalogue-beyond h k = rw (le-leb (s .places .0) ownPlaces h, lt-leb (s .catalogue .0) ownCatalogue k)
 
-  module _ (told : List ℕ) (h : Held s part told) where
+  module _ (told : List ℕ) (h : OwnSized s part told) where
     within : ofFile (opened s part) ≡ ofRead s (readOf (length part) (s .catalogue .0) part)
     within = rw (le-leb (s .places .0) ownPlaces (h .places), le-leb (s .catalogue .0) ownCatalogue (h .catalogue))
 

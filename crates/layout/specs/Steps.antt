@@ -18,7 +18,7 @@ pub record Given (s : Settings) (part : List ℕ) : Type 0 where
   pub short : length part ≤ inputMost
 
 -- and that its own tables hold
-pub record Held (s : Settings) (part told : List ℕ) : Type 0 where
+pub record OwnSized (s : Settings) (part told : List ℕ) : Type 0 where
   pub given : Given s part
   pub places : s .places .0 ≤ ownPlaces
   pub catalogue : s .catalogue .0 ≤ ownCatalogue

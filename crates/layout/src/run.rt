@@ -4,7 +4,7 @@ use replay::Carried;
 use replay::carry_on;
 use tables::Tally;
 use tables::fresh;
-ghost use Rattle.layout.specs.Steps.{Held, Ran};
+ghost use Rattle.layout.specs.Steps.{OwnSized, Ran};
 
 // The program's own tables.
 pub(crate) const OWN_PLACES: u64 = 512;
@@ -13,7 +13,7 @@ pub(crate) const OWN_CATALOGUE: u64 = 4096;
 
 // The run over the requests of a part: the answer with the tally, and the events in a list. The fresh start is not refused: settings and lengths are in order.
 pub(crate) fn run_into(settings: Settings, part: &[u8], events: &mut [u32]) -> Carried
-    requires { ⌜ Held settings (now part) (now events) ⌝ }
+    requires { ⌜ OwnSized settings (now part) (now events) ⌝ }
     ensures { λ r. ⌜ Ran settings (now (part .entry)) (now (events .entry)) r (now (events .exit)) ⌝ }
 {
     let mut place = [0u16; OWN_CATALOGUE as usize];

@@ -12,8 +12,8 @@ use Rattle.method.specs.Shelf.{Shelf, none, kept, files}
 use Rattle.method.specs.Method.{Policy, Settings, Reply, Served, State, step, run}
 use Rattle.method.specs.Totals.{Totals, onHit, onAdmitted, onPassed, counted, totals, zeros, Agreed}
 use Rattle.method.specs.Promise.{Sound, SoundAt}
-use Rattle.method.specs.declared.Outcome.{Outcome}
-use Rattle.method.specs.declared.Outcome.the-variants.{Hit, Admitted, Passed}
+use Rattle.method.specs.declared.outcome.Outcome.{Outcome}
+use Rattle.method.specs.declared.outcome.Outcome.the-variants.{Hit, Admitted, Passed}
 use Rattle.method.proofs.Cases.{meet-by}
 use Rattle.method.proofs.Counts.{Counts, step-counts}
 use Rattle.method.proofs.Sound.{resolved-valued, step-sound}

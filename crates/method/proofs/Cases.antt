@@ -11,9 +11,9 @@ use Rattle.amounts.specs.Requests.{Request, resolved}
 use Rattle.amounts.proofs.Tests.{pick-true, pick-false}
 use Rattle.method.specs.Shelf.{Kept, Slot, none, kept, Shelf}
 use Rattle.method.specs.Method.{Policy, gds, gdsf, Settings, beside, among, Cleared, clear, Served, State, newcomer, missed, served, hit, goes, settle, admit, miss, meet, step}
-use Rattle.method.specs.declared.Pass.{Pass}
-use Rattle.method.specs.declared.Pass.the-variants.{TooBig, LowKey}
-use Rattle.method.specs.declared.Outcome.the-variants.{Admitted, Passed}
+use Rattle.method.specs.declared.outcome.Pass.{Pass}
+use Rattle.method.specs.declared.outcome.Pass.the-variants.{TooBig, LowKey}
+use Rattle.method.specs.declared.outcome.Outcome.the-variants.{Admitted, Passed}
 
 -- what each policy clears for the newcomer q
 abbrev pub room₁ : Settings → ℕ → Shelf → Request → Cleared

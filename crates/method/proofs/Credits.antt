@@ -15,9 +15,9 @@ use Rattle.method.specs.Method.{Policy, gds, gdsf, Settings, Gone, Reply
 use Rattle.method.specs.Method.{State, served, missed, keyed, newcomer, again, goes, settle, admit, miss, meet, step, fresh, Run, after, run}
 use Rattle.method.specs.Credit.{less, Drained, too, drain, Ledger, paid, credited, settleC, admitC, meetC, stepC, freshC}
 use Rattle.method.specs.Promise.{bare, plain, SameAsCredit}
-use Rattle.method.specs.declared.Pass.the-variants.{TooBig, LowKey}
-use Rattle.method.specs.declared.Outcome.{Outcome}
-use Rattle.method.specs.declared.Outcome.the-variants.{Hit, Admitted, Passed}
+use Rattle.method.specs.declared.outcome.Pass.the-variants.{TooBig, LowKey}
+use Rattle.method.specs.declared.outcome.Outcome.{Outcome}
+use Rattle.method.specs.declared.outcome.Outcome.the-variants.{Hit, Admitted, Passed}
 use Rattle.method.proofs.Shelves.{none-kept, each-set, not-lower-key}
 use Rattle.method.proofs.Room.{next-at, clear-stop, clear-more}
 

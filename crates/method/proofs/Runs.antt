@@ -13,8 +13,8 @@ use Rattle.method.specs.Method.{Policy, Settings, Gone, Reply, Served, W
 use Rattle.method.specs.Events.{entries, events}
 use Rattle.method.specs.Totals.{onAdmitted}
 use Rattle.method.specs.Promise.{SoundAt}
-use Rattle.method.specs.declared.Outcome.{Outcome}
-use Rattle.method.specs.declared.Outcome.the-variants.{Hit, Admitted, Passed}
+use Rattle.method.specs.declared.outcome.Outcome.{Outcome}
+use Rattle.method.specs.declared.outcome.Outcome.the-variants.{Hit, Admitted, Passed}
 use Rattle.method.proofs.Shelves.{sum-set}
 use Rattle.method.proofs.Room.{next-at, clear-stop, clear-more}
 use Rattle.method.proofs.Cases.{meet-by}

@@ -9,8 +9,8 @@ use Rattle.amounts.specs.Worth.{productOf}
 use Rattle.amounts.specs.Requests.{Request, resolved}
 use Rattle.method.specs.Shelf.{Kept, Slot, none, kept, Shelf, Found, nothing, at}
 use Rattle.method.specs.Method.{Policy, gds, gdsf, Settings, Gone, Reply, Served, Wanted, next, beside, among, missed, again, goes}
-use Rattle.method.specs.declared.Pass.the-variants.{TooBig, LowKey}
-use Rattle.method.specs.declared.Outcome.the-variants.{Hit, Admitted, Passed}
+use Rattle.method.specs.declared.outcome.Pass.the-variants.{TooBig, LowKey}
+use Rattle.method.specs.declared.outcome.Outcome.the-variants.{Hit, Admitted, Passed}
 
 -- d is subtracted
 abbrev pub less : ℕ → Slot → Slot

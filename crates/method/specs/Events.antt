@@ -4,9 +4,9 @@ use Prim.Native.Nat.{ℕ, _+_, _*_}
 use Rattle.amounts.specs.Limits.{catalogueMost}
 use Rattle.amounts.specs.Requests.{Request}
 use Rattle.method.specs.Method.{Gone, Reply}
-use Rattle.method.specs.declared.Pass.the-variants.{TooBig, LowKey}
-use Rattle.method.specs.declared.Outcome.{Outcome}
-use Rattle.method.specs.declared.Outcome.the-variants.{Hit, Admitted, Passed}
+use Rattle.method.specs.declared.outcome.Pass.the-variants.{TooBig, LowKey}
+use Rattle.method.specs.declared.outcome.Outcome.{Outcome}
+use Rattle.method.specs.declared.outcome.Outcome.the-variants.{Hit, Admitted, Passed}
 
 -- document 01, "Event list": kind × 32,768 + file
 abbrev pub event : ℕ → ℕ → ℕ

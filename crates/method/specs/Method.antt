@@ -8,10 +8,10 @@ use Rattle.amounts.specs.Limits.{pick}
 use Rattle.amounts.specs.Worth.{productOf}
 use Rattle.amounts.specs.Requests.{Request, resolved}
 use Rattle.method.specs.Shelf.{Kept, Slot, none, kept, Shelf, bytes, files, Found, nothing, at, lowest}
-use Rattle.method.specs.declared.Pass.{Pass}
-use Rattle.method.specs.declared.Pass.the-variants.{TooBig, LowKey}
-use Rattle.method.specs.declared.Outcome.{Outcome}
-use Rattle.method.specs.declared.Outcome.the-variants.{Hit, Admitted, Passed}
+use Rattle.method.specs.declared.outcome.Pass.{Pass}
+use Rattle.method.specs.declared.outcome.Pass.the-variants.{TooBig, LowKey}
+use Rattle.method.specs.declared.outcome.Outcome.{Outcome}
+use Rattle.method.specs.declared.outcome.Outcome.the-variants.{Hit, Admitted, Passed}
 
 -- GreedyDual-Size is policy 1, GreedyDual-Size-Frequency is policy 2
 pub data Policy : Type 0 where

@@ -5,8 +5,8 @@ use Prim.Native.Nat.{ℕ, suc, _+_, _*_, _≤_}
 use lib.ListN.{length}
 use Rattle.amounts.specs.Limits.{sizeMost, costMost}
 use Rattle.method.specs.Method.{Reply}
-use Rattle.method.specs.declared.Outcome.{Outcome}
-use Rattle.method.specs.declared.Outcome.the-variants.{Hit, Admitted, Passed}
+use Rattle.method.specs.declared.outcome.Outcome.{Outcome}
+use Rattle.method.specs.declared.outcome.Outcome.the-variants.{Hit, Admitted, Passed}
 
 pub record Totals : Type 0 where
   pub requests : ℕ

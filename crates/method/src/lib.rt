@@ -1,13 +1,12 @@
-// How a request ended. The methods themselves are definitions and theorems, in specs/ and proofs/.
+// How a request ended, and the event list that says so. The methods themselves are definitions and theorems, in specs/ and proofs/.
+mod events;
+mod outcome;
 
-// Why a file that was asked for is not kept: larger than the store, or among the lowest itself.
-pub enum Pass {
-    TooBig,
-    LowKey,
-}
-
-pub enum Outcome {
-    Hit,
-    Admitted,
-    Passed(Pass),
-}
+pub use events::ADMIT;
+pub use events::BIG;
+pub use events::EVICT;
+pub use events::HIT;
+pub use events::LOW;
+pub use events::event;
+pub use outcome::Outcome;
+pub use outcome::Pass;

@@ -6,7 +6,7 @@ use Rattle.method.specs.Shelf.{Kept}
 use Rattle.method.specs.Method.{Policy, gds, gdsf, keyed}
 use Rattle.tables.specs.Tally.{policyIn, stampOf, totalsOf}
 use Rattle.tables.specs.declared.tally.Tally.{Tally}
-use Rattle.counting.specs.Counting.{withTotals, admitTotals, Countable}
+use Rattle.counting.specs.Counting.{tallied, admitTotals, Countable}
 use Rattle.shelving.specs.declared.room.Room.{Room}
 
 -- document 01, "The run": the L that the newcomer's key is set with, after the evictions for policy 1 and before them for policy 2
@@ -33,7 +33,7 @@ goneFor a room = a .«files_kept» - room .left
 
 -- the tally with it
 abbrev pub admittedTally : Tally → ℕ → ℕ → Room → Tally
-admittedTally a z w room = withTotals a (room .inflation .0) (room .bytes .0 + z) (room .left + 1) (admitTotals (totalsOf a) z w (goneFor a room))
+admittedTally a z w room = tallied a (room .inflation .0) (room .bytes .0 + z) (room .left + 1) (admitTotals (totalsOf a) z w (goneFor a room))
 
 pub record Admits (a : Tally) (z w : ℕ) (room : Room) : Type 0 where
   pub countable : Countable a z w

@@ -24,7 +24,7 @@ use Rattle.replay.proofs.Walking.{good-one}
 use Rattle.amounts.specs.Requests.{Request}
 use Rattle.amounts.specs.declared.settings.Settings.{Settings}
 use Rattle.method.specs.Method.{Policy, State, Served, Reply, Run, run, step}
-use Rattle.method.specs.Shelf.{Shelf}
+use Rattle.method.specs.Shelf.{Shelf, bytes, files}
 use Rattle.method.specs.Totals.{Totals, totals}
 use Rattle.method.specs.Events.{events}
 use Rattle.method.proofs.Runs.{run-append-state, run-append-replies, run-append-events, run-stamp, run-replies}
@@ -72,7 +72,7 @@ served-in-parts a t qs ps told₁ told₂ told r₁ r₂ r u₁ u₂ u now₁ no
     sym (totals-append (totalsOf a) (runFrom a t qs .replies) (y .replies)) ∙ ap (totals (totalsOf a)) (sym (run-append-replies (step (policyIn (a .settings)) (storeOf (a .settings))) (stateOf a t) qs ps)) in
     let same : r₁ .tally .settings ≡ a .settings = same-settings a t qs told₁ r₁ u₁ now₁ f in
     record {
-      tally = g .tally ∙ (λ i. tallyOf (f .tally i) (on i)) ∙ (λ i. tallied a (state i) (sums i)) ∙ sym (h .tally);
+      tally = g .tally ∙ (λ i. tallyOf (f .tally i) (on i)) ∙ (λ i. tallied a (state i .inflation) (bytes (state i .shelf)) (files (state i .shelf)) (sums i)) ∙ sym (h .tally);
       shelf =
           ap (λ (s : Settings). shelfOf (s .catalogue .0) u₂) (sym same) ∙ g .shelf ∙ ap (λ (z : Run State). z .state .shelf) on ∙ ap (λ (st : State). st .shelf) state ∙ sym (h .shelf);
       past =

@@ -15,8 +15,8 @@ use Rattle.method.specs.Shelf.{Shelf, files, bytes}
 use Rattle.method.specs.Method.{Policy, State, Served, Reply, Run, run, step}
 use Rattle.method.specs.Events.{entries, events}
 use Rattle.method.specs.Totals.{Totals, totals, counted, onAdmitted}
-use Rattle.method.specs.declared.Outcome.{Outcome}
-use Rattle.method.specs.declared.Outcome.the-variants.{Hit, Admitted, Passed}
+use Rattle.method.specs.declared.outcome.Outcome.{Outcome}
+use Rattle.method.specs.declared.outcome.Outcome.the-variants.{Hit, Admitted, Passed}
 use Rattle.method.proofs.Runs.{length-entries}
 use Rattle.method.proofs.Counts.{step-counts}
 use Rattle.trace.specs.Reading.{Read, good, readOf}
@@ -28,7 +28,7 @@ use Rattle.tables.specs.Tally.{storeOf, policyIn, stateOf, totalsOf}
 use Rattle.tables.specs.declared.tally.Tally.{Tally}
 use Rattle.tables.proofs.Ranges.{Bounded, bounded}
 use Rattle.tables.proofs.Shelves.{shelf-length}
-use Rattle.counting.specs.Counting.{tallied, after}
+use Rattle.counting.specs.Counting.{after}
 use Rattle.serving.specs.Serving.{Running, Servable, Stepped, asked, beyondOf}
 use Rattle.replay.specs.Parts.{runFrom, tallyOf, eventsOf, Ready, ReadyFor, PartServed, ServedFor}
 use Rattle.replay.specs.declared.part.Ended.{Ended}

@@ -6,6 +6,7 @@ use lib.ListN.{length, drop}
 use lib.Seq.{sets}
 use Rattle.amounts.specs.Limits.{requestsMost}
 use Rattle.amounts.specs.Requests.{Request}
+use Rattle.method.specs.Shelf.{bytes, files}
 use Rattle.method.specs.Method.{State, Run, run, step}
 use Rattle.method.specs.Events.{events}
 use Rattle.method.specs.Totals.{totals}
@@ -23,7 +24,7 @@ runFrom a t qs = run (step (policyIn (a .settings)) (storeOf (a .settings))) (st
 
 -- document 01, "Tables and the tally": the tally after a run
 abbrev pub tallyOf : Tally → Run State → Tally
-tallyOf a x = tallied a (x .state) (totals (totalsOf a) (x .replies))
+tallyOf a x = tallied a (x .state .inflation) (bytes (x .state .shelf)) (files (x .state .shelf)) (totals (totalsOf a) (x .replies))
 
 -- document 01, "Event list": its events
 abbrev pub eventsOf : List Request → Run State → List ℕ

@@ -22,9 +22,9 @@ use Rattle.method.specs.Method.{Policy, gds, gdsf, Gone, State, Served, served,
 use Rattle.method.specs.Method as method
 use Rattle.method.specs.Events.{event, evict, entries}
 use Rattle.method.specs.Promise.{Sound, SoundAt, Small}
-use Rattle.method.specs.declared.Pass.{Pass}
-use Rattle.method.specs.declared.Pass.the-variants.{LowKey}
-use Rattle.method.specs.declared.Outcome.the-variants.{Admitted, Passed}
+use Rattle.method.specs.declared.outcome.Pass.{Pass}
+use Rattle.method.specs.declared.outcome.Pass.the-variants.{LowKey}
+use Rattle.method.specs.declared.outcome.Outcome.the-variants.{Admitted, Passed}
 use Rattle.method.proofs.Shelves.{sum-set-eq, sum-at, each-set}
 use Rattle.method.proofs.Cases.{step-miss}
 use Rattle.method.proofs.Sound.{step-sound}
@@ -38,7 +38,7 @@ use Rattle.shelving.specs.Taking.{Aside, aside}
 use Rattle.shelving.specs.Live.{Live, Stack}
 use Rattle.shelving.specs.Room.{roomFor, Roomless, Roomed, Popped, none, more, Apiece, Again}
 use Rattle.shelving.specs.Evicting.{withQueue, behind, without}
-use Rattle.counting.specs.Counting.{after, withTotals, passTotals, admitTotals, Countable}
+use Rattle.counting.specs.Counting.{after, tallied, passTotals, admitTotals, Countable}
 use Rattle.serving.specs.Serving.{Enterable, Entered, Running, Admissible, Serves, beyondOf}
 use Rattle.newcomer.specs.Newcomer.{limitOf, baseOf, newRecord, goneFor, admittedTally, Worthy, Admits}
 use Rattle.shelving.specs.declared.room.Room.{Room}
@@ -85,11 +85,11 @@ pub plus-zero : (n : ℕ) → n ≡ n + 0
 plus-zero n = omega arith
 
 pub pass-after : (a : Tally) (st : State) (q : Request) (w : Pass) → bytes (st .shelf) ≡ a .«bytes_kept» .0 → files (st .shelf) ≡ a .«files_kept»
-    → withTotals a (st .inflation) (a .«bytes_kept» .0) (a .«files_kept») (passTotals (totalsOf a) (q .size) (q .cost)) ≡ after a (served (st .inflation) (st .shelf) (st .stamp) (missed q [] (Passed w)))
+    → tallied a (st .inflation) (a .«bytes_kept» .0) (a .«files_kept») (passTotals (totalsOf a) (q .size) (q .cost)) ≡ after a (served (st .inflation) (st .shelf) (st .stamp) (missed q [] (Passed w)))
 pass-after a st q w b n =
     let b′ : a .«bytes_kept» .0 ≡ bytes (st .shelf) = sym b in
     let n′ : a .«files_kept» ≡ files (st .shelf) = sym n in
-    λ i. withTotals a (st .inflation) (b′ i) (n′ i)
+    λ i. tallied a (st .inflation) (b′ i) (n′ i)
     (record {
       requests = a .requests + 1;
       hits = plus-zero (a .hits) i;
@@ -105,14 +105,14 @@ pass-after a st q w b n =
 -- the newcomer k stands in a free slot of what is left
 admit-after : (a : Tally) (l b n g : ℕ) (x : Shelf) (q : Request) (k : Kept) (gone : List Gone) (stamp : ℕ) → k .size ≡ q .size → getD x (q .file) none ≡ none → q .file < length x
     → bytes x ≡ b → files x ≡ n → length gone ≡ g
-    → withTotals a l (b + q .size) (n + 1) (admitTotals (totalsOf a) (q .size) (q .cost) g) ≡ after a (served l (set x (q .file) (kept k)) stamp (missed q gone Admitted))
+    → tallied a l (b + q .size) (n + 1) (admitTotals (totalsOf a) (q .size) (q .cost) g) ≡ after a (served l (set x (q .file) (kept k)) stamp (missed q gone Admitted))
 admit-after a l b n g x q k gone stamp z out inside eb en eg =
     let y : bytes (set x (q .file) (kept k)) + 0 ≡ k .size + bytes x = rw out at (sum-set-eq (λ r. r .size) x (q .file) (kept k) inside) in
     let m : files (set x (q .file) (kept k)) + 0 ≡ 1 + files x = rw out at (sum-set-eq (λ r. 1) x (q .file) (kept k) inside) in
     let b′ : b + q .size ≡ bytes (set x (q .file) (kept k)) = omega arith in
     let n′ : n + 1 ≡ files (set x (q .file) (kept k)) = omega arith in
     let g′ : g ≡ length gone = sym eg in
-    λ i. withTotals a l (b′ i) (n′ i)
+    λ i. tallied a l (b′ i) (n′ i)
     (record {
       requests = a .requests + 1;
       hits = plus-zero (a .hits) i;
@@ -269,7 +269,7 @@ module _ (a : Tally) (q : Request) (t : Tables) (entry free events : List ℕ) (
       -- nothing but the queue's arrangement has changed
       pub passes : (queue₂ entry₂ events′ : List ℕ) (v : ℕ) (w : Step) → Again queue₁ entry₁ queue₂ entry₂ (t .key) (t .stamp) (a .«files_kept»)
           → v ≡ event 4 (q .file) → events′ ≡ set events at v → w .outcome ≡ Passed LowKey
-          → w .tally ≡ withTotals a (a .inflation .0) (a .«bytes_kept» .0) (a .«files_kept») (passTotals (totalsOf a) (q .size) (q .cost)) → w .events ≡ at + 1
+          → w .tally ≡ tallied a (a .inflation .0) (a .«bytes_kept» .0) (a .«files_kept») (passTotals (totalsOf a) (q .size) (q .cost)) → w .events ≡ at + 1
           → Serves a q t events at (admit policy store (a .inflation .0) shelf (stampOf a) q) w (withQueue queue₂ t) entry₂ free events′
       passes queue₂ entry₂ events′ v w g is-v last o tl c =
           let u : Tables = withQueue queue₂ t in
@@ -358,7 +358,7 @@ module _ (a : Tally) (q : Request) (t : Tables) (entry free events : List ℕ) (
             outcome = d .outcome;
             tally =
                 d .tally
-                ∙ ap (λ (l : ℕ). withTotals a l (r .bytes .0 + q .size) (r .left + 1) (admitTotals (totalsOf a) (q .size) (q .cost) g)) base
+                ∙ ap (λ (l : ℕ). tallied a l (r .bytes .0 + q .size) (r .left + 1) (admitTotals (totalsOf a) (q .size) (q .cost) g)) base
                 ∙ admit-after a (made .inflation) (r .bytes .0) (r .left) g (made .shelf) q (keyed (baseOf policy (a .inflation .0) (made .inflation)) (q .size) (q .cost) 1 (stampOf a)) (made .gone) (stampOf a) refl
                 (left-free .0) (left-free .1) (stays .weight) (stays .count) counted;
             shelf = d .shelf ∙ (λ i. set (left i) (q .file) (kept (keyed (baseOf policy (a .inflation .0) (base i)) (q .size) (q .cost) 1 (stampOf a))));

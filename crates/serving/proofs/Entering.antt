@@ -17,7 +17,7 @@ use Rattle.queue.proofs.Totals.{total-more, total-prefix, times-at, times-found
 use Rattle.method.specs.Shelf.{Kept, kept, Shelf}
 use Rattle.method.specs.Method.{Gone}
 use Rattle.method.specs.Events.{event, evict}
-use Rattle.method.specs.declared.Outcome.the-variants.{Admitted}
+use Rattle.method.specs.declared.outcome.Outcome.the-variants.{Admitted}
 use Rattle.tables.specs.Tables.{Tables, Long, recordAt, slotOf, shelfOf}
 use Rattle.tables.specs.Sound.{At, Occupied}
 use Rattle.tables.proofs.Shelves.{shelf-change, slot-kept}

@@ -20,8 +20,8 @@ use Rattle.method.specs.Method.{Policy, State, Served, served, missed, keyed, a
 use Rattle.method.specs.Method as method
 use Rattle.method.specs.Events.{event}
 use Rattle.method.specs.Promise.{Sound, SoundAt, Fine}
-use Rattle.method.specs.declared.Pass.the-variants.{TooBig}
-use Rattle.method.specs.declared.Outcome.the-variants.{Hit, Passed}
+use Rattle.method.specs.declared.outcome.Pass.the-variants.{TooBig}
+use Rattle.method.specs.declared.outcome.Outcome.the-variants.{Hit, Passed}
 use Rattle.method.proofs.Shelves.{sum-at, sum-set-eq}
 use Rattle.method.proofs.Cases.{step-hit, step-big, step-miss}
 use Rattle.method.proofs.Sound.{step-sound, resolved-valued}
@@ -32,7 +32,7 @@ use Rattle.tables.specs.declared.tally.Tally.{Tally}
 use Rattle.tables.proofs.Ranges.{bounded}
 use Rattle.tables.proofs.Shelves.{shelf-at, shelf-length, shelf-change, slot-none, slot-kept}
 use Rattle.shelving.specs.Live.{Live, Stack}
-use Rattle.counting.specs.Counting.{after, withTotals, hitTotals, passTotals, Countable}
+use Rattle.counting.specs.Counting.{after, tallied, hitTotals, passTotals, Countable}
 use Rattle.shelving.specs.Hitting.{freqAfter, keyAfter, Hittable, HitDone}
 use Rattle.serving.specs.Serving.{Running, Servable, Admissible, Serves, Stepped, asked, admits, beyondOf}
 use Rattle.serving.specs.declared.step.Step.{Step}
@@ -88,7 +88,7 @@ module _ (a : Tally) (q : Request) (t : Tables) (entry free events : List ℕ) (
     -- too big for the store: nothing but the tally changes
     pub too-big : a .settings .capacity .0 < q .size → (cost : ℕ) → cost ≡ inForce (q .size) (q .cost) → (v : ℕ) (events′ : List ℕ) (r : Step) → v ≡ event 3 (q .file)
         → events′ ≡ set events at v → r .outcome ≡ Passed TooBig
-        → r .tally ≡ withTotals a (a .inflation .0) (a .«bytes_kept» .0) (a .«files_kept») (passTotals (totalsOf a) (q .size) cost) → r .events ≡ at + 1
+        → r .tally ≡ tallied a (a .inflation .0) (a .«bytes_kept» .0) (a .«files_kept») (passTotals (totalsOf a) (q .size) cost) → r .events ≡ at + 1
         → Serves a q t events at given r t entry free events′
     too-big big cost e v events′ r is-v last o tl c =
         let n : a .«files_kept» ≡ r .tally .«files_kept» = sym (ap (λ (x : Tally). x .«files_kept») tl) in
@@ -96,7 +96,7 @@ module _ (a : Tally) (q : Request) (t : Tables) (entry free events : List ℕ) (
         (record {
           outcome = o;
           tally =
-              tl ∙ ap (λ (w : ℕ). withTotals a (a .inflation .0) (a .«bytes_kept» .0) (a .«files_kept») (passTotals (totalsOf a) (q .size) w)) e
+              tl ∙ ap (λ (w : ℕ). tallied a (a .inflation .0) (a .«bytes_kept» .0) (a .«files_kept») (passTotals (totalsOf a) (q .size) w)) e
               ∙ pass-after a (stateOf a t) (resolved q) TooBig (h .running .sound .bytes) (h .running .sound .files);
           shelf = refl;
           written = last ∙ ap (set events at) is-v;
@@ -253,7 +253,7 @@ module _ (a : Tally) (q : Request) (t : Tables) (entry free events : List ℕ) (
           let y′ : a .«bytes_kept» .0 ≡ bytes (set shelf (q .file) (kept new)) = omega (arith, h .running .sound .bytes) in
           let m′ : a .«files_kept» ≡ files (set shelf (q .file) (kept new)) = omega (arith, h .running .sound .files) in
           d .tally
-          ∙ (λ i. withTotals a (a .inflation .0) (y′ i) (m′ i)
+          ∙ (λ i. tallied a (a .inflation .0) (y′ i) (m′ i)
           (record {
             requests = a .requests + 1;
             hits = a .hits + 1;

@@ -13,14 +13,14 @@ use Rattle.amounts.specs.declared.settings.Settings.{Settings}
 use Rattle.method.specs.Shelf.{Kept, kept}
 use Rattle.method.specs.Method.{Policy, gds, gdsf, State, Served, keyed, step, admit}
 use Rattle.method.specs.Events.{event, evict, entries}
-use Rattle.method.specs.declared.Outcome.the-variants.{Admitted}
+use Rattle.method.specs.declared.outcome.Outcome.the-variants.{Admitted}
 use Rattle.tables.specs.Tables.{Tables, Long, shelfOf, beyond}
 use Rattle.tables.specs.Tally.{storeOf, policyIn, stampOf, stateOf, totalsOf}
 use Rattle.tables.specs.Sound.{Sound, Desk}
 use Rattle.tables.specs.declared.tally.Tally.{Tally}
 use Rattle.shelving.specs.Live.{Live, Stack}
 use Rattle.shelving.specs.Evicting.{behind, without}
-use Rattle.counting.specs.Counting.{after, withTotals, admitTotals, Countable}
+use Rattle.counting.specs.Counting.{after, tallied, admitTotals, Countable}
 use Rattle.shelving.specs.declared.room.Room.{Room}
 use Rattle.newcomer.specs.Newcomer.{newRecord, Worthy, goneFor, admittedTally, Admits}
 use Rattle.serving.specs.declared.step.Step.{Step}

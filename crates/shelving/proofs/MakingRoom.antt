@@ -15,8 +15,8 @@ use Rattle.amounts.proofs.Tests.{pick-true, pick-false, same, below}
 use Rattle.amounts.proofs.Ordering.{not-lower, lower-self}
 use Rattle.method.specs.Shelf.{Kept, Slot, none, kept, Shelf, sum, bytes, files, NotLower, Found, nothing, at, lowest, Each}
 use Rattle.method.specs.Method.{Settings, gds, gdsf, Gone, Wanted, fits, beside, among, next, Cleared, also, clear, goes, served, missed, keyed, newcomer, admit}
-use Rattle.method.specs.declared.Pass.the-variants.{LowKey}
-use Rattle.method.specs.declared.Outcome.the-variants.{Admitted, Passed}
+use Rattle.method.specs.declared.outcome.Pass.the-variants.{LowKey}
+use Rattle.method.specs.declared.outcome.Outcome.the-variants.{Admitted, Passed}
 use Rattle.method.specs.Promise.{Apart}
 use Rattle.method.proofs.Shelves.{Good, none-kept, is-kept, sum-set, sum-set-eq, sum-none, each-set, at-set, kept-lt, lowest-good, lowest-is, lowest-nothing, not-lower-key}
 use Rattle.method.proofs.Room.{clear-stop, clear-more, sum-empty}

@@ -9,7 +9,7 @@ use Rattle.queue.specs.Queue.{Holding, Rekeyed}
 use Rattle.method.specs.Method.{again}
 use Rattle.tables.specs.Tally.{policyIn, totalsOf, stampOf}
 use Rattle.tables.specs.declared.tally.Tally.{Tally}
-use Rattle.counting.specs.Counting.{withTotals, hitTotals, Countable}
+use Rattle.counting.specs.Counting.{tallied, hitTotals, Countable}
 
 -- the next frequency of the file at place p, and its next key
 abbrev pub freqAfter : Tally → List ℕ → ℕ → ℕ
@@ -34,4 +34,4 @@ pub record Hittable (a : Tally) (p : ℕ) (size cost freq keys stamps queue entr
 pub record HitDone (a : Tally) (p : ℕ) (size cost freq keys stamps queue entry freq′ keys′ stamps′ queue′ entry′ : List ℕ) (r : Tally) : Type 0 where
   pub freqs : freq′ ≡ set freq p (freqAfter a freq p)
   pub rekeyed : Rekeyed queue queue′ entry entry′ keys keys′ stamps stamps′ (a .«files_kept») (getD entry p 0) (keyAfter a size cost freq p) (stampOf a)
-  pub tally : r ≡ withTotals a (a .inflation .0) (a .«bytes_kept» .0) (a .«files_kept») (hitTotals (totalsOf a) (getD size p 0) (getD cost p 0))
+  pub tally : r ≡ tallied a (a .inflation .0) (a .«bytes_kept» .0) (a .«files_kept») (hitTotals (totalsOf a) (getD size p 0) (getD cost p 0))

@@ -7,7 +7,7 @@ use lib.ListN.{getD, set}
 use Rattle.amounts.specs.Worth.{productOf}
 use Rattle.method.specs.Method as method
 use Rattle.tables.specs.Tally.{policyIn, totalsOf}
-use Rattle.counting.specs.Counting.{withTotals, hitTotals}
+use Rattle.counting.specs.Counting.{tallied, hitTotals}
 use Rattle.shelving.proofs.Hits.{again-most, rekeyed-at}
 use Rattle.shelving.proofs.hitting.hit.Statement.{statement}
 use Rattle.shelving.proofs.hitting.hit.Tie as tie
@@ -118,7 +118,7 @@ returns c =
     record {
       freqs = ap (set (start .args .freq .now) (start .args .p)) freq;
       rekeyed = rekeyed-at (c .before .before .before .before .before .before .before .before .before .before .before .before .before .before .wide162 .ensures) (c .before .before .before .before .before .before .before .before .before .before .before .before .before .before .before .before .plus .ensures ∙ key) (c .before .before .before .before .before .before .before .before .before .rekey .ensures);
-      tally = c .with-hit .ensures ∙ (λ i. withTotals (start .args .a) (start .args .a .inflation .0) (start .args .a .«bytes_kept» .0) (start .args .a .«files_kept») (hitTotals (totalsOf (start .args .a)) (size i) (cost i)));
+      tally = c .with-hit .ensures ∙ (λ i. tallied (start .args .a) (start .args .a .inflation .0) (start .args .a .«bytes_kept» .0) (start .args .a .«files_kept») (hitTotals (totalsOf (start .args .a)) (size i) (cost i)));
     }
 
 pub hit-spec : {M : Type 1} → statement M
