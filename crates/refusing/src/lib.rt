@@ -3,4 +3,5 @@ mod part;
 mod settings;
 
 pub use part::room_for;
+pub use settings::Settled;
 pub use settings::judge_settings;

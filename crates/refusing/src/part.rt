@@ -12,7 +12,7 @@ fn has_room(a: Tally, count: usize, told: usize) -> Answer
     requires { ⌜ Judgeable a ⌝ }
     ensures { λ r. ⌜ r ≡ roomed a count told ⌝ }
 {
-    if Requests::MOST - a.requests < count as u64 {
+    if !Requests(a.requests).leave_room(count as u64) {
         return Answer::Refused(Refusal::TooMany);
     }
     if told < 2 * count + a.files_kept as usize {

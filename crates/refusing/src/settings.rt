@@ -3,9 +3,15 @@ use amounts::Unit;
 use card::Refusal;
 use tables::Tally;
 use tables::long_enough;
-use trace::Answer;
 ghost use mathlib.Core.Path.{_≡_};
+ghost use Rattle.tables.specs.Tables.{longEnough};
 ghost use Rattle.refusing.specs.Judging.{settled};
+
+// Nothing stands against the call so far, or the refusal.
+pub enum Settled {
+    Fine,
+    Refused(Refusal),
+}
 
 // The settings, the lengths and the unit: 1, 2 or 8.
 pub fn judge_settings(
@@ -19,17 +25,17 @@ pub fn judge_settings(
     key: usize,
     stamp: usize,
     queue: usize,
-) -> Answer
-    ensures { λ r. ⌜ r ≡ settled (unit .0) a place file size cost freq key stamp queue ⌝ }
+) -> Settled
+    ensures { λ r. ⌜ r ≡ settled (unit .0) a (longEnough (a .settings .places .0) (a .settings .catalogue .0) place file size cost freq key stamp queue) ⌝ }
 {
-    if !Unit::is_unit(unit.0) {
-        return Answer::Refused(Refusal::Setting);
+    if !unit.in_range() {
+        return Settled::Refused(Refusal::Setting);
     }
     if !a.settings.in_range() {
-        return Answer::Refused(Refusal::Setting);
+        return Settled::Refused(Refusal::Setting);
     }
-    let places = a.settings.places.0 as usize;
-    let catalogue = a.settings.catalogue.0 as usize;
+    let places = a.settings.places.count();
+    let catalogue = a.settings.catalogue.count();
     if !long_enough(
         places,
         catalogue,
@@ -42,10 +48,10 @@ pub fn judge_settings(
         stamp,
         queue,
     ) {
-        return Answer::Refused(Refusal::Short);
+        return Settled::Refused(Refusal::Short);
     }
-    if unit.0 == a.settings.unit.0 {
-        return Answer::Done(0);
+    if unit.same(a.settings.unit) {
+        return Settled::Fine;
     }
-    Answer::Refused(Refusal::OtherUnit)
+    Settled::Refused(Refusal::OtherUnit)
 }

@@ -1,6 +1,7 @@
 -- The laws of this room.
 pub mod Walking
 pub mod Carryings
+pub mod Cases
 pub mod OneAnswer
 pub mod InParts
 pub mod Demands

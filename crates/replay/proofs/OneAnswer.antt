@@ -1,156 +1,135 @@
 -- What a run carried on promises admits one answer, and a fresh start over any old tables gives the same run. Assumes nothing.
 use mathlib.Core.Path.{_≡_, refl, sym, ap, _∙_, subst}
-use mathlib.Core.Bool.{Bool, true, false, _&&_}
+use mathlib.Core.Bool.{Bool, true}
 use mathlib.Core.List.{List, [], _∷_}
-use mathlib.Core.Logic.{_⊎_, inl, inr}
-use Prim.Native.Nat.{ℕ, _+_, _*_}
+use Prim.Native.Nat.{ℕ, _≤_}
 use native.Mathlib.Omega.{arith}
-use lib.Dec.{leb, eqb}
 use lib.ListN.{length}
 use lib.Seq.{sets}
-use Rattle.amounts.specs.Limits.{isUnit, requestsMost, noPlace}
+use Rattle.amounts.specs.Limits.{noPlace, placesMost}
 use Rattle.amounts.specs.Settings.{inRange}
 use Rattle.amounts.specs.Requests.{Request}
 use Rattle.amounts.specs.declared.settings.Settings.{Settings}
-use Rattle.card.specs.Card.{Card, done, refused, cardOf}
+use Rattle.card.specs.Card.{done}
 use Rattle.method.specs.Method.{State, Run, run, step}
-use Rattle.trace.specs.Reading.{Read, good, stop, readOf}
-use Rattle.trace.specs.Cards.{answerCard}
+use Rattle.trace.specs.declared.answer.Answer.{Answer}
+use Rattle.trace.specs.declared.answer.Answer.the-variants.{Done, Refused}
 use Rattle.trace.proofs.OneAnswer.{answer-one}
-use Rattle.tables.specs.Tables.{Tables, shelfOf}
-use Rattle.tables.specs.Tally.{storeOf, policyIn, stateOf, freshTally}
+use Rattle.tables.specs.Tables.{Tables, Long, needed, shelfOf}
+use Rattle.tables.specs.Tally.{storeOf, policyIn, freshTally}
 use Rattle.tables.specs.Start.{long, Freshly}
-use Rattle.tables.specs.Sound.{Sound}
+use Rattle.tables.specs.Sound.{Sound, Linked, Queued}
+use Rattle.tables.specs.Renaming.{Renamed}
 use Rattle.tables.specs.declared.start.Started.{Started}
 use Rattle.tables.specs.declared.tally.Tally.{Tally}
-use Rattle.tables.proofs.SoundDecided.{sound-decided}
 use Rattle.tables.proofs.Lengths.{long-of}
 use Rattle.tables.proofs.Lists.{length-filled}
+use Rattle.tables.proofs.Ranges.{bounded}
+use Rattle.tables.proofs.Renamings.{renamed}
 use Rattle.tables.proofs.Shelves.{fresh-shelf}
-use Rattle.tables.proofs.Twins.{fresh-done, freshly-sound}
-use Rattle.serving.specs.Serving.{beyondOf}
+use Rattle.tables.proofs.Twins.{fresh-done, freshly-sound, twins}
+use Rattle.refusing.specs.Judging.{requestsIn, fitting, settled}
 use Rattle.replay.specs.Parts.{runFrom, tallyOf, eventsOf}
-use Rattle.replay.specs.Carrying.{Refuses, Runs, either, Reads, Judges, Carries}
-use Rattle.replay.specs.Agreeing.{Alike}
+use Rattle.replay.specs.Carrying.{Refuses, Runs, Answers, Carries}
+use Rattle.replay.specs.Agreeing.{Left, Same, Alike}
 use Rattle.replay.specs.declared.carry.Carried.{Carried}
+use Rattle.replay.proofs.Cases.{due, dueHere, due-sound, answers, sure, past}
 
--- ---- two runs from tables that stand for the same shelf
+-- ---- sound tables of one tally that stand for one shelf
 
-module _ (a : Tally) (t t′ : Tables) (e : shelfOf (a .settings .catalogue .0) t ≡ shelfOf (a .settings .catalogue .0) t′) (told : List ℕ) (r r′ : Carried) (u u′ : Tables) (now now′ : List ℕ) where
-  alike-refused : (x : Card) → Refuses x a t told r u now → Refuses x a t′ told r′ u′ now′ → Alike (a .settings) r r′ u u′ now now′
-  alike-refused x f g =
-      record {
-        answer = answer-one (r .answer) (r′ .answer) (f .answer ∙ sym (g .answer));
-        tally = f .tally ∙ sym (g .tally);
-        shelf = ap (shelfOf (a .settings .catalogue .0)) (f .lent) ∙ e ∙ ap (shelfOf (a .settings .catalogue .0)) (sym (g .lent));
-        events = f .untold ∙ sym (g .untold);
-      }
+-- are the same but for a renaming of places and the queue's order
+pub one-shelf : (s : Settings) → inRange s ≡ true → (a : Tally) (u u′ : Tables) → a .settings ≡ s → Sound a u → Sound a u′
+    → Long (s .places .0) (s .catalogue .0) u → Long (s .places .0) (s .catalogue .0) u′ → shelfOf (s .catalogue .0) u ≡ shelfOf (s .catalogue .0) u′ → Renamed s (a .«files_kept») u u′
+one-shelf s h a u u′ e f g l l′ same =
+    renamed s (bounded s h .places .1) u u′ l l′ (subst (λ (x : Settings). Linked x u) e (f .linked)) (subst (λ (x : Settings). Linked x u′) e (g .linked)) same (a .«files_kept»)
+    (subst (λ (x : Settings). Queued x (a .«files_kept») u) e (f .queued))
+    (subst (λ (x : Settings). Queued x (a .«files_kept») u′) e (g .queued))
 
+-- ---- two calls that are due one answer, from tables that stand for one shelf
+
+module _ (a : Tally) (t t′ : Tables) (e : shelfOf (a .settings .catalogue .0) t ≡ shelfOf (a .settings .catalogue .0) t′)
+    (n : needed (a .settings .places .0) (a .settings .catalogue .0) t ≡ needed (a .settings .places .0) (a .settings .catalogue .0) t′)
+    (told part : List ℕ) (r r′ : Carried) (u u′ : Tables) (now now′ : List ℕ) where
   same-run : (qs : List Request) → runFrom a t qs ≡ runFrom a t′ qs
   same-run qs = λ i. run (step (policyIn (a .settings)) (storeOf (a .settings))) (record { inflation = a .inflation .0; shelf = e i; stamp = a .requests }) qs
 
-  alike-run : (qs : List Request) → Runs qs a t told r u now → Runs qs a t′ told r′ u′ now′ → Alike (a .settings) r r′ u u′ now now′
-  alike-run qs f g =
+  same-done : (qs : List Request) → inRange (a .settings) ≡ true → Runs qs a t told r u now → Runs qs a t′ told r′ u′ now′ → Same (a .settings) r r′ u u′ now now′
+  same-done qs h f g =
       let x = same-run qs in
+      let tally : r .tally ≡ r′ .tally = f .tally ∙ ap (tallyOf a) x ∙ sym (g .tally) in
+      let shelf = f .shelf ∙ ap (λ (y : Run State). y .state .shelf) x ∙ sym (g .shelf) in
+      let is : r .answer ≡ Done (length (eventsOf qs (runFrom a t qs))) = answer-one _ _ (f .answer) in
       record {
-        answer = answer-one (r .answer) (r′ .answer) (f .answer ∙ ap (λ (y : Run State). done (length (eventsOf qs y) ∷ [])) x ∙ sym (g .answer));
-        tally = f .tally ∙ ap (tallyOf a) x ∙ sym (g .tally);
-        shelf = f .shelf ∙ ap (λ (y : Run State). y .state .shelf) x ∙ sym (g .shelf);
+        answer = is ∙ sym (answer-one _ _ (g .answer ∙ ap (λ (y : Run State). done (length (eventsOf qs y) ∷ [])) (sym x)));
+        tally = tally;
         events = f .written ∙ ap (λ (y : Run State). sets told 0 (eventsOf qs y)) x ∙ sym (g .written);
+        needed =
+            subst (Left (a .settings) (r .tally .«files_kept») u u′) (sym is)
+            (one-shelf (a .settings) h (r .tally) u u′ (ap (λ (y : Tally). y .settings) (f .tally)) (f .sound) (subst (λ (y : Tally). Sound y u′) (sym tally) (g .sound)) (f .long) (g .long) shelf);
       }
 
-  alike-read : (z : Read) → Reads a t told r u now z → Reads a t′ told r′ u′ now′ z → Alike (a .settings) r r′ u u′ now now′
-  alike-read (stop x) f g = alike-refused (cardOf x) f g
-  alike-read (good qs) f g = go (leb (a .requests + length qs) requestsMost) (leb (2 * length qs + a .«files_kept») (length told)) f g
-    where
-      go : (x y : Bool) → either x (either y (Runs qs a t told r u now) (Refuses (refused 6 []) a t told r u now)) (Refuses (refused 5 []) a t told r u now)
-          → either x (either y (Runs qs a t′ told r′ u′ now′) (Refuses (refused 6 []) a t′ told r′ u′ now′)) (Refuses (refused 5 []) a t′ told r′ u′ now′) → Alike (a .settings) r r′ u u′ now now′
-      go true true f g = alike-run qs f g
-      go true false f g = alike-refused (refused 6 []) f g
-      go false y f g = alike-refused (refused 5 []) f g
-
-  -- both sound, or neither
-  alike-judged : (part : List ℕ) → (Sound a t × Sound a t′) ⊎ ((Sound a t → ⊥) × (Sound a t′ → ⊥)) → Judges a t told r u now part → Judges a t′ told r′ u′ now′ part → Alike (a .settings) r r′ u u′ now now′
-  alike-judged part (inl s) f g = alike-read (readOf (length part) (a .settings .catalogue .0) part) (f .sound (s .0)) (g .sound (s .1))
-  alike-judged part (inr n) f g = alike-refused (refused 7 []) (f .unsound (n .0)) (g .unsound (n .1))
-
-  pub alike-carried : (unit : ℕ) (part : List ℕ) → long (a .settings) t ≡ long (a .settings) t′ → (Sound a t × Sound a t′) ⊎ ((Sound a t → ⊥) × (Sound a t′ → ⊥))
-      → Carries a t told r u now unit part → Carries a t′ told r′ u′ now′ unit part → Alike (a .settings) r r′ u u′ now now′
-  alike-carried unit part l s f g = go (isUnit unit && inRange (a .settings)) (long (a .settings) t) (long (a .settings) t′) l (eqb unit (a .settings .unit .0)) f g
-    where
-      go : (x y y′ : Bool) → y ≡ y′ → (z : Bool)
-          → either x (either y (either z (Judges a t told r u now part) (Refuses (refused 8 []) a t told r u now)) (Refuses (refused 2 []) a t told r u now)) (Refuses (refused 1 []) a t told r u now)
-          → either x (either y′ (either z (Judges a t′ told r′ u′ now′ part) (Refuses (refused 8 []) a t′ told r′ u′ now′)) (Refuses (refused 2 []) a t′ told r′ u′ now′)) (Refuses (refused 1 []) a t′ told r′ u′ now′)
-          → Alike (a .settings) r r′ u u′ now now′
-      go true true true l true f g = alike-judged part s f g
-      go true true true l false f g = alike-refused (refused 8 []) f g
-      go true false false l z f g = alike-refused (refused 2 []) f g
-      go true true false l z f g = let w : _≡_ {A = ℕ} 0 1 = cc in absurd (omega arith)
-      go true false true l z f g = let w : _≡_ {A = ℕ} 0 1 = cc in absurd (omega arith)
-      go false y y′ l z f g = alike-refused (refused 1 []) f g
+  same-answers : (z : Answer) → ((k : ℕ) → z ≡ Done k → inRange (a .settings) ≡ true) → Answers a t told r u now part z → Answers a t′ told r′ u′ now′ part z → Same (a .settings) r r′ u u′ now now′
+  same-answers (Done k) h f g = same-done (requestsIn a part) (h k refl) f g
+  same-answers (Refused x) h f g =
+      let is : r .answer ≡ Refused x = answer-one _ _ (f .answer) in
+      let left : Tables → Tables = needed (a .settings .places .0) (a .settings .catalogue .0) in
+      record {
+        answer = is ∙ sym (answer-one _ _ (g .answer));
+        tally = f .tally ∙ sym (g .tally);
+        events = f .untold ∙ sym (g .untold);
+        needed = subst (Left (a .settings) (r .tally .«files_kept») u u′) (sym is) (ap left (f .lent) ∙ n ∙ ap left (sym (g .lent)));
+      }
 
 -- ---- one answer
 
--- two results that meet the promise agree in all but which place a file takes and the queue's order
+-- two results that meet the promise of one call: nothing is free but which place a file takes, and the queue's order
 pub carry-on-one-answer : (a : Tally) (t : Tables) (told : List ℕ) (r r′ : Carried) (u u′ : Tables) (now now′ : List ℕ) (unit : ℕ) (part : List ℕ)
     → Carries a t told r u now unit part → Carries a t told r′ u′ now′ unit part → Alike (a .settings) r r′ u u′ now now′
-carry-on-one-answer a t told r r′ u u′ now now′ unit part f g = alike-carried a t t refl told r r′ u u′ now now′ unit part refl (go (sound-decided a t)) f g
-  where
-    go : Sound a t ⊎ (Sound a t → ⊥) → (Sound a t × Sound a t) ⊎ ((Sound a t → ⊥) × (Sound a t → ⊥))
-    go (inl s) = inl (s, s)
-    go (inr n) = inr (n, n)
-
--- entries beyond the needed ones are as they were, whatever the answer
-module _ (a : Tally) (t : Tables) (told : List ℕ) (r : Carried) (u : Tables) (now : List ℕ) where
-  beyond-refused : {x : Card} → Refuses x a t told r u now → beyondOf (a .settings) u ≡ beyondOf (a .settings) t
-  beyond-refused h = ap (beyondOf (a .settings)) (h .lent)
-
-  beyond-read : (z : Read) → Reads a t told r u now z → beyondOf (a .settings) u ≡ beyondOf (a .settings) t
-  beyond-read (stop x) h = beyond-refused h
-  beyond-read (good qs) h = go (leb (a .requests + length qs) requestsMost) (leb (2 * length qs + a .«files_kept») (length told)) h
-    where
-      go : (x y : Bool) → either x (either y (Runs qs a t told r u now) (Refuses (refused 6 []) a t told r u now)) (Refuses (refused 5 []) a t told r u now) → beyondOf (a .settings) u ≡ beyondOf (a .settings) t
-      go true true h = h .past
-      go true false h = beyond-refused h
-      go false y h = beyond-refused h
-
-  beyond-judged : (part : List ℕ) → Sound a t ⊎ (Sound a t → ⊥) → Judges a t told r u now part → beyondOf (a .settings) u ≡ beyondOf (a .settings) t
-  beyond-judged part (inl s) h = beyond-read (readOf (length part) (a .settings .catalogue .0) part) (h .sound s)
-  beyond-judged part (inr n) h = beyond-refused (h .unsound n)
-
-  pub carry-on-beyond : (unit : ℕ) (part : List ℕ) → Carries a t told r u now unit part → beyondOf (a .settings) u ≡ beyondOf (a .settings) t
-  carry-on-beyond unit part h = go (isUnit unit && inRange (a .settings)) (long (a .settings) t) (eqb unit (a .settings .unit .0)) h
-    where
-      go : (x y z : Bool)
-          → either x (either y (either z (Judges a t told r u now part) (Refuses (refused 8 []) a t told r u now)) (Refuses (refused 2 []) a t told r u now)) (Refuses (refused 1 []) a t told r u now)
-          → beyondOf (a .settings) u ≡ beyondOf (a .settings) t
-      go true true true h = beyond-judged part (sound-decided a t) h
-      go true true false h = beyond-refused h
-      go true false z h = beyond-refused h
-      go false y z h = beyond-refused h
+carry-on-one-answer a t told r r′ u u′ now now′ unit part f g =
+    let z = dueHere a t told unit part in
+    let x = answers a t told unit part r u now f in
+    let y = answers a t told unit part r′ u′ now′ g in
+    record {
+      same = same-answers a t t refl refl told part r r′ u u′ now now′ z (λ k e. sure a t told unit part k e .range) x y;
+      past = past a t told r u now part z x ∙ sym (past a t told r′ u′ now′ part z y);
+    }
 
 -- ---- twins, over a whole run
 
 -- a fresh start leaves the tables as long as they were
-fresh-long : (s : Settings) (t : Tables) (d : Started) (u : Tables) → Freshly s t d u → inRange s ≡ true → long s t ≡ true → long s u ≡ true
+pub fresh-long : (s : Settings) (t : Tables) (d : Started) (u : Tables) → Freshly s t d u → inRange s ≡ true → long s t ≡ true → long s u ≡ true
 fresh-long s t d u f h l =
     let p : ℕ = s .places .0 in
     let n : ℕ = s .catalogue .0 in
     let k = long-of p n t l in
     ap (long s) (fresh-done s t d u f h l .1)
-    ∙ rw (length-filled n noPlace (t .place) (k .place), length-filled p 0 (t .file) (k .file), length-filled p 0 (t .size) (k .size), length-filled p 0 (t .cost) (k .cost), length-filled p 0 (t .freq) (k .freq), length-filled p 0 (t .key) (k .key), length-filled p 0 (t .stamp) (k .stamp), length-filled p 0 (t .queue) (k .queue)) l
+    ∙ rw (
+      length-filled n noPlace (t .place) (k .place),
+      length-filled p 0 (t .file) (k .file),
+      length-filled p 0 (t .size) (k .size),
+      length-filled p 0 (t .cost) (k .cost),
+      length-filled p 0 (t .freq) (k .freq),
+      length-filled p 0 (t .key) (k .key),
+      length-filled p 0 (t .stamp) (k .stamp),
+      length-filled p 0 (t .queue) (k .queue),
+    ) l
 
--- a fresh start and a trace give the same answer, events, tally and shelf, whatever the tables held before
+-- a fresh start and a trace give the same, whatever the tables held before
 pub twins-run : (s : Settings) (t t′ : Tables) (d d′ : Started) (u u′ : Tables) → Freshly s t d u → Freshly s t′ d′ u′ → inRange s ≡ true → long s t ≡ true → long s t′ ≡ true
     → (unit : ℕ) (part told : List ℕ) (r r′ : Carried) (w w′ : Tables) (now now′ : List ℕ)
-    → Carries (freshTally s) u told r w now unit part → Carries (freshTally s) u′ told r′ w′ now′ unit part → (d ≡ d′) × Alike s r r′ w w′ now now′
+    → Carries (freshTally s) u told r w now unit part → Carries (freshTally s) u′ told r′ w′ now′ unit part → (d ≡ d′) × Same s r r′ w w′ now now′
 twins-run s t t′ d d′ u u′ f f′ h l l′ unit part told r r′ w w′ now now′ c c′ =
-    let x = fresh-done s t d u f h l in
-    let x′ = fresh-done s t′ d′ u′ f′ h l′ in
     let n : ℕ = s .catalogue .0 in
+    let a : Tally = freshTally s in
+    let both = twins s t t′ d d′ u u′ f f′ h l l′ in
     let shelf : shelfOf n u ≡ shelfOf n u′ =
-    ap (shelfOf n) (x .1) ∙ fresh-shelf (s .places .0) n t ∙ sym (fresh-shelf (s .places .0) n t′) ∙ ap (shelfOf n) (sym (x′ .1)) in
-    let lengths : long s u ≡ long s u′ = fresh-long s t d u f h l ∙ sym (fresh-long s t′ d′ u′ f′ h l′) in (
-      x .0 ∙ sym (x′ .0),
-      alike-carried (freshTally s) u u′ shelf told r r′ w w′ now now′ unit part lengths (inl (freshly-sound s t d u f h l .1, freshly-sound s t′ d′ u′ f′ h l′ .1)) c c′,
+    ap (shelfOf n) (fresh-done s t d u f h l .1) ∙ fresh-shelf (s .places .0) n t ∙ sym (fresh-shelf (s .places .0) n t′) ∙ ap (shelfOf n) (sym (fresh-done s t′ d′ u′ f′ h l′ .1)) in
+    let long-same : long s u ≡ long s u′ = fresh-long s t d u f h l ∙ sym (fresh-long s t′ d′ u′ f′ h l′) in
+    let one : dueHere a u told unit part ≡ dueHere a u′ told unit part =
+    due-sound a u told unit part (freshly-sound s t d u f h l .1) ∙ ap (λ (b : Bool). due (settled unit a b) true (fitting a part (length told))) long-same
+    ∙ sym (due-sound a u′ told unit part (freshly-sound s t′ d′ u′ f′ h l′ .1)) in (
+      both .0,
+      same-answers a u u′ shelf (both .1) told part r r′ w w′ now now′ (dueHere a u′ told unit part) (λ k e. h)
+          (subst (Answers a u told r w now part) one (answers a u told unit part r w now c))
+          (answers a u′ told unit part r′ w′ now′ c′),
     )

@@ -6,7 +6,7 @@ use Prim.Native.Nat.{ℕ, zero, suc, _+_, _-_, _*_, _≤_, _<_}
 use native.Mathlib.Omega.{arith}
 use lib.ListN.{length, getD, set, drop, length-append, length-map}
 use lib.Seq.{sets, length-sets}
-use Rattle.amounts.specs.Limits.{requestsMost, catalogueMost, isCatalogue}
+use Rattle.amounts.specs.Limits.{requestsMost, catalogueMost, isCatalogue, isSize, isCost}
 use Rattle.amounts.specs.Settings.{inRange}
 use Rattle.amounts.specs.Requests.{Request, Ranged, AllRanged}
 use Rattle.amounts.specs.declared.settings.Settings.{Settings}
@@ -25,12 +25,14 @@ use Rattle.trace.specs.declared.reader.Taken.{Taken}
 use Rattle.trace.proofs.RoundTrip.{part-ranged}
 use Rattle.tables.specs.Tables.{Tables, shelfOf}
 use Rattle.tables.specs.Tally.{storeOf, policyIn, stateOf, totalsOf}
+use Rattle.tables.specs.Sound.{Sound}
 use Rattle.tables.specs.declared.tally.Tally.{Tally}
 use Rattle.tables.proofs.Ranges.{Bounded, bounded}
 use Rattle.tables.proofs.Shelves.{shelf-length}
-use Rattle.counting.specs.Counting.{after}
+use Rattle.counting.specs.Counting.{tallied, after}
 use Rattle.serving.specs.Serving.{Running, Servable, Stepped, asked, beyondOf}
-use Rattle.replay.specs.Parts.{runFrom, tallyOf, eventsOf, Ready, ReadyFor, PartServed, ServedFor}
+use Rattle.refusing.specs.Judging.{requestsIn}
+use Rattle.replay.specs.Parts.{runFrom, tallyOf, eventsOf, Ready, PartServed}
 use Rattle.replay.specs.declared.part.Ended.{Ended}
 use Rattle.serving.specs.declared.step.Step.{Step}
 use Rattle.shelving.proofs.Dropping.{SameLengths, same-lengths}
@@ -38,8 +40,6 @@ use Rattle.serving.proofs.Runnings.{next-state}
 
 -- the loop's head: what is left of the run makes of what stands now what the whole makes of what stood at entry
 pub record Walk (a : Tally) (part : List ℕ) (count : ℕ) (t₀ : Tables) (told₀ : List ℕ) (t : Tables) (entry free told : List ℕ) (b : Tally) (at e i : ℕ) : Type 0 where
-  pub qs : List Request
-  pub reads : readOf (length part) (a .settings .catalogue .0) part ≡ good qs
   pub rest : List Request
   pub left : readOf (length part) (a .settings .catalogue .0) (drop at part) ≡ good rest
   pub number : i + length rest ≡ count
@@ -47,19 +47,16 @@ pub record Walk (a : Tally) (part : List ℕ) (count : ℕ) (t₀ : Tables) (tol
   pub running : Running b t entry free
   pub few : b .requests + length rest ≤ requestsMost
   pub room : e + 2 * length rest + b .«files_kept» ≤ length told
-  pub state : runFrom b t rest .state ≡ runFrom a t₀ qs .state
-  pub sums : totals (totalsOf b) (runFrom b t rest .replies) ≡ totals (totalsOf a) (runFrom a t₀ qs .replies)
-  pub written : sets told e (eventsOf rest (runFrom b t rest)) ≡ sets told₀ 0 (eventsOf qs (runFrom a t₀ qs))
-  pub counts : e + length (eventsOf rest (runFrom b t rest)) ≡ length (eventsOf qs (runFrom a t₀ qs))
+  pub state : runFrom b t rest .state ≡ runFrom a t₀ (requestsIn a part) .state
+  pub sums : totals (totalsOf b) (runFrom b t rest .replies) ≡ totals (totalsOf a) (runFrom a t₀ (requestsIn a part) .replies)
+  pub written : sets told e (eventsOf rest (runFrom b t rest)) ≡ sets told₀ 0 (eventsOf (requestsIn a part) (runFrom a t₀ (requestsIn a part)))
+  pub counts : e + length (eventsOf rest (runFrom b t rest)) ≡ length (eventsOf (requestsIn a part) (runFrom a t₀ (requestsIn a part)))
   pub past : beyondOf (a .settings) t ≡ beyondOf (a .settings) t₀
 
-pub walk-first : (a : Tally) (part : List ℕ) (count : ℕ) (t : Tables) (entry free told : List ℕ) → ReadyFor a part count t entry free told → Walk a part count t told t entry free told a 0 0 0
-walk-first a part count t entry free told r =
-    let h = r .1 in
+pub walk-first : (a : Tally) (part : List ℕ) (count : ℕ) (t : Tables) (entry free told : List ℕ) → Ready a part count t entry free told → Walk a part count t told t entry free told a 0 0 0
+walk-first a part count t entry free told h =
     record {
-      qs = r .0;
-      reads = h .reads;
-      rest = r .0;
+      rest = requestsIn a part;
       left = h .reads;
       number = omega (arith, h .counts);
       settings = refl;
@@ -183,6 +180,13 @@ module _ (a : Tally) (part : List ℕ) (count : ℕ) (t₀ : Tables) (told₀ : 
         room = omega (arith, w .room, length-rest);
       }
 
+  -- its size and its cost are in range
+  pub walk-size : isSize (y .size) ≡ true
+  walk-size = subst (λ (n : ℕ). isSize n ≡ true) (sym (turn .first .size)) (turn .ranged .size)
+
+  pub walk-cost : isCost (y .cost) ≡ true
+  walk-cost = subst (λ (n : ℕ). isCost n ≡ true) (sym (turn .first .cost)) (turn .ranged .cost)
+
   pub walk-servable : (f sz co : ℕ) → f ≡ y .file → sz ≡ y .size → co ≡ y .cost → Servable b (asked f sz co) t entry free told e
   walk-servable f sz co ef es ec =
       subst (λ (x : Request). Servable b x t entry free told e) (sym ((λ i. asked (ef i) (es i) (ec i)) ∙ asked-is)) servable-q
@@ -195,8 +199,6 @@ module _ (a : Tally) (part : List ℕ) (count : ℕ) (t₀ : Tables) (told₀ : 
       let s : Stepped b q t told e r u entry′ free′ told′ = subst (λ (x : Request). Stepped b x t told e r u entry′ free′ told′) ((λ i. asked (ef i) (es i) (ec i)) ∙ asked-is) s₀ in
       let at-rest : runFrom b t (w .rest) ≡ runFrom b t (q ∷ l) = ap (runFrom b t) (turn .rest) in
       record {
-        qs = w .qs;
-        reads = w .reads;
         rest = l;
         left = turn .first .rest;
         number = omega (arith, w .number, length-rest);
@@ -217,31 +219,17 @@ module _ (a : Tally) (part : List ℕ) (count : ℕ) (t₀ : Tables) (told₀ : 
 
 -- ---- the end
 
-pub walk-end : (a : Tally) (part : List ℕ) (count : ℕ) (t₀ : Tables) (told₀ : List ℕ) (t : Tables) (entry free told : List ℕ) (b : Tally) (at e i : ℕ)
-    → Walk a part count t₀ told₀ t entry free told b at e i → count ≤ i → (r : Ended) → r .tally ≡ b → r .events ≡ e → ServedFor a part t₀ told₀ r t entry free told
-unfolding run totals events
-walk-end a part count t₀ told₀ t entry free told b at e i w end r is-b is-e qs reads =
-    let none : w .rest ≡ [] = empty (w .rest) (omega (arith, w .number)) in
-    let same : w .qs ≡ qs = good-one (sym (w .reads) ∙ reads) in
-    let st : stateOf b t ≡ runFrom a t₀ qs .state = ap (λ (l : List Request). runFrom b t l .state) (sym none) ∙ w .state ∙ ap (λ (l : List Request). runFrom a t₀ l .state) same in
-    let sums : totalsOf b ≡ totals (totalsOf a) (runFrom a t₀ qs .replies) =
-    ap (λ (l : List Request). totals (totalsOf b) (runFrom b t l .replies)) (sym none) ∙ w .sums ∙ ap (λ (l : List Request). totals (totalsOf a) (runFrom a t₀ l .replies)) same in
-    let evs : told ≡ sets told₀ 0 (eventsOf qs (runFrom a t₀ qs)) =
-    ap (λ (l : List Request). sets told e (eventsOf l (runFrom b t l))) (sym none) ∙ w .written ∙ ap (λ (l : List Request). sets told₀ 0 (eventsOf l (runFrom a t₀ l))) same in
-    let cnt : e + 0 ≡ length (eventsOf qs (runFrom a t₀ qs)) =
-    ap (λ (l : List Request). e + length (eventsOf l (runFrom b t l))) (sym none) ∙ w .counts ∙ ap (λ (l : List Request). length (eventsOf l (runFrom a t₀ l))) same in
-    let shelf : shelfOf (a .settings .catalogue .0) t ≡ runFrom a t₀ qs .state .shelf =
-    ap (λ (x : Settings). shelfOf (x .catalogue .0) t) (sym (w .settings)) ∙ ap (λ (x : State). x .shelf) st in
-    let y : bytes (stateOf b t .shelf) ≡ b .«bytes_kept» .0 = w .running .sound .bytes in
-    let n : files (stateOf b t .shelf) ≡ b .«files_kept» = w .running .sound .files in
-    let kept-b : b .«bytes_kept» .0 ≡ bytes (runFrom a t₀ qs .state .shelf) = sym y ∙ ap (λ (x : State). bytes (x .shelf)) st in
-    let kept-n : b .«files_kept» ≡ files (runFrom a t₀ qs .state .shelf) = sym n ∙ ap (λ (x : State). files (x .shelf)) st in
-    let tally : b ≡ tallyOf a (runFrom a t₀ qs) =
+-- the tally of sound tables, by the state and the totals that both stand for
+pub stands : (a b : Tally) (t : Tables) (st : State) (y : Totals) → b .settings ≡ a .settings → stateOf b t ≡ st → totalsOf b ≡ y → Sound b t
+    → b ≡ tallied a (st .inflation) (bytes (st .shelf)) (files (st .shelf)) y
+stands a b t st y set is sums sound =
+    let used : b .«bytes_kept» .0 ≡ bytes (st .shelf) = sym (sound .bytes) ∙ ap (λ (x : State). bytes (x .shelf)) is in
+    let many : b .«files_kept» ≡ files (st .shelf) = sym (sound .files) ∙ ap (λ (x : State). files (x .shelf)) is in
     λ j. record {
-      settings = w .settings j;
-      inflation = record { 0 = st j .inflation };
-      «bytes_kept» = record { 0 = kept-b j };
-      «files_kept» = kept-n j;
+      settings = set j;
+      inflation = record { 0 = is j .inflation };
+      «bytes_kept» = record { 0 = used j };
+      «files_kept» = many j;
       requests = sums j .requests;
       hits = sums j .hits;
       admitted = sums j .admitted;
@@ -251,9 +239,25 @@ walk-end a part count t₀ told₀ t entry free told b at e i w end r is-b is-e 
       «hit_bytes» = record { 0 = sums j .hitBytes };
       «cost_asked» = record { 0 = sums j .cost };
       «hit_cost» = record { 0 = sums j .hitCost };
-    } in
+    }
+
+pub walk-end : (a : Tally) (part : List ℕ) (count : ℕ) (t₀ : Tables) (told₀ : List ℕ) (t : Tables) (entry free told : List ℕ) (b : Tally) (at e i : ℕ)
+    → Walk a part count t₀ told₀ t entry free told b at e i → count ≤ i → (r : Ended) → r .tally ≡ b → r .events ≡ e → PartServed (requestsIn a part) a t₀ told₀ r t entry free told
+unfolding run totals events
+walk-end a part count t₀ told₀ t entry free told b at e i w end r is-b is-e =
+    let none : w .rest ≡ [] = empty (w .rest) (omega (arith, w .number)) in
+    let qs : List Request = requestsIn a part in
+    let st : stateOf b t ≡ runFrom a t₀ qs .state = ap (λ (l : List Request). runFrom b t l .state) (sym none) ∙ w .state in
+    let sums : totalsOf b ≡ totals (totalsOf a) (runFrom a t₀ qs .replies) =
+    ap (λ (l : List Request). totals (totalsOf b) (runFrom b t l .replies)) (sym none) ∙ w .sums in
+    let evs : told ≡ sets told₀ 0 (eventsOf qs (runFrom a t₀ qs)) =
+    ap (λ (l : List Request). sets told e (eventsOf l (runFrom b t l))) (sym none) ∙ w .written in
+    let cnt : e + 0 ≡ length (eventsOf qs (runFrom a t₀ qs)) =
+    ap (λ (l : List Request). e + length (eventsOf l (runFrom b t l))) (sym none) ∙ w .counts in
+    let shelf : shelfOf (a .settings .catalogue .0) t ≡ runFrom a t₀ qs .state .shelf =
+    ap (λ (x : Settings). shelfOf (x .catalogue .0) t) (sym (w .settings)) ∙ ap (λ (x : State). x .shelf) st in
     record {
-      tally = is-b ∙ tally;
+      tally = is-b ∙ stands a b t (runFrom a t₀ qs .state) _ (w .settings) st sums (w .running .sound);
       shelf = shelf;
       written = evs;
       count = is-e ∙ omega (arith, cnt);

@@ -1,22 +1,28 @@
--- When two runs carried on say the same (document 01, "How much each promise says"). Assumes nothing.
+-- When two runs carried on give the same (document 01, "How much each promise says"). Assumes nothing.
 use mathlib.Core.Path.{_≡_}
-use mathlib.Core.List.{List, _++_}
+use mathlib.Core.List.{List}
 use Prim.Native.Nat.{ℕ}
 use Rattle.amounts.specs.declared.settings.Settings.{Settings}
-use Rattle.tables.specs.Tables.{Tables, shelfOf}
+use Rattle.trace.specs.declared.answer.Answer.{Answer}
+use Rattle.trace.specs.declared.answer.Answer.the-variants.{Done, Refused}
+use Rattle.tables.specs.Tables.{Tables, needed}
+use Rattle.tables.specs.Renaming.{Renamed}
 use Rattle.serving.specs.Serving.{beyondOf}
 use Rattle.replay.specs.declared.carry.Carried.{Carried}
 
--- all that a sheet can show: the answer, the whole tally, what is kept of each file, every entry of the event list
-pub record Alike (s : Settings) (r r′ : Carried) (u u′ : Tables) (told told′ : List ℕ) : Type 0 where
+-- the needed entries that two calls leave, with n files kept: equal where they are refused; where they are done, but for a renaming of places and the queue's order
+abbrev pub Left : Settings → ℕ → Tables → Tables → Answer → Type 0
+Left s n u u′ (Refused x) = needed (s .places .0) (s .catalogue .0) u ≡ needed (s .places .0) (s .catalogue .0) u′
+Left s n u u′ (Done k) = Renamed s n u u′
+
+-- two calls give the same: the answer, the whole tally, every entry of the event list, and the needed entries of the tables
+pub record Same (s : Settings) (r r′ : Carried) (u u′ : Tables) (told told′ : List ℕ) : Type 0 where
   pub answer : r .answer ≡ r′ .answer
   pub tally : r .tally ≡ r′ .tally
-  pub shelf : shelfOf (s .catalogue .0) u ≡ shelfOf (s .catalogue .0) u′
   pub events : told ≡ told′
+  pub needed : Left s (r .tally .«files_kept») u u′ (r .answer)
 
--- a run served in two parts and at once: r₂ and u₂ are left by the second part, r and u by the whole
-pub record InParts (s : Settings) (r₂ r : Carried) (u₂ u : Tables) (first second whole : List ℕ) : Type 0 where
-  pub tally : r₂ .tally ≡ r .tally
-  pub shelf : shelfOf (s .catalogue .0) u₂ ≡ shelfOf (s .catalogue .0) u
-  pub past : beyondOf s u₂ ≡ beyondOf s u
-  pub events : whole ≡ first ++ second
+-- and what lies past the needed lengths: so on a refusal every lent entry is equal, and else nothing is free but which place a file takes, and the queue's order
+pub record Alike (s : Settings) (r r′ : Carried) (u u′ : Tables) (told told′ : List ℕ) : Type 0 where
+  pub same : Same s r r′ u u′ told told′
+  pub past : beyondOf s u ≡ beyondOf s u′

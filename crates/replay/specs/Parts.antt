@@ -2,7 +2,7 @@
 use mathlib.Core.Path.{_≡_}
 use mathlib.Core.List.{List, [], _∷_}
 use Prim.Native.Nat.{ℕ, _+_, _*_, _≤_}
-use lib.ListN.{length, drop}
+use lib.ListN.{length}
 use lib.Seq.{sets}
 use Rattle.amounts.specs.Limits.{requestsMost}
 use Rattle.amounts.specs.Requests.{Request}
@@ -16,6 +16,7 @@ use Rattle.tables.specs.Tally.{storeOf, policyIn, stateOf, totalsOf}
 use Rattle.tables.specs.declared.tally.Tally.{Tally}
 use Rattle.counting.specs.Counting.{tallied}
 use Rattle.serving.specs.Serving.{Running, beyondOf}
+use Rattle.refusing.specs.Judging.{requestsIn}
 use Rattle.replay.specs.declared.part.Ended.{Ended}
 
 -- document 01, "The run": the method's run over the requests qs, from the state that tally and tables stand for
@@ -30,27 +31,19 @@ tallyOf a x = tallied a (x .state .inflation) (bytes (x .state .shelf)) (files (
 abbrev pub eventsOf : List Request → Run State → List ℕ
 eventsOf qs x = events qs (x .replies)
 
--- what serving a part of the requests qs asks: it is good, and there is room for it in the run and in the event list
-pub record Ready (a : Tally) (qs : List Request) (part : List ℕ) (count : ℕ) (t : Tables) (entry free told : List ℕ) : Type 0 where
+-- what serving a part asks: it is good, and there is room for its requests in the run and in the event list
+pub record Ready (a : Tally) (part : List ℕ) (count : ℕ) (t : Tables) (entry free told : List ℕ) : Type 0 where
   pub running : Running a t entry free
-  pub reads : readOf (length part) (a .settings .catalogue .0) part ≡ good qs
-  pub counts : length qs ≡ count
+  pub reads : readOf (length part) (a .settings .catalogue .0) part ≡ good (requestsIn a part)
+  pub counts : length (requestsIn a part) ≡ count
   pub few : a .requests + count ≤ requestsMost
   pub room : 2 * count + a .«files_kept» ≤ length told
 
--- what it promises, for the requests that the part holds
-pub record PartServed (a : Tally) (qs : List Request) (t : Tables) (told : List ℕ) (r : Ended) (u : Tables) (entry′ free′ told′ : List ℕ) : Type 0 where
+-- what it promises: tally, shelf and events of the run over the requests qs, and sound tables again
+pub record PartServed (qs : List Request) (a : Tally) (t : Tables) (told : List ℕ) (r : Ended) (u : Tables) (entry′ free′ told′ : List ℕ) : Type 0 where
   pub tally : r .tally ≡ tallyOf a (runFrom a t qs)
   pub shelf : shelfOf (a .settings .catalogue .0) u ≡ runFrom a t qs .state .shelf
   pub written : told′ ≡ sets told 0 (eventsOf qs (runFrom a t qs))
   pub count : r .events ≡ length (eventsOf qs (runFrom a t qs))
   pub running : Running (r .tally) u entry′ free′
   pub past : beyondOf (a .settings) u ≡ beyondOf (a .settings) t
-
--- whatever the requests are
-abbrev pub ReadyFor : Tally → List ℕ → ℕ → Tables → List ℕ → List ℕ → List ℕ → Type 0
-ReadyFor a part count t entry free told = (qs : List Request) × Ready a qs part count t entry free told
-
-abbrev pub ServedFor : Tally → List ℕ → Tables → List ℕ → Ended → Tables → List ℕ → List ℕ → List ℕ → Type 0
-ServedFor a part t told r u entry′ free′ told′ =
-    (qs : List Request) → readOf (length part) (a .settings .catalogue .0) part ≡ good qs → PartServed a qs t told r u entry′ free′ told′

@@ -4,6 +4,7 @@ use amounts::Places;
 use amounts::Unit;
 use card::Refusal;
 use judge::is_sound;
+use refusing::Settled;
 use refusing::judge_settings;
 use refusing::room_for;
 use tables::Tally;
@@ -104,7 +105,7 @@ pub fn carry_on(
 ) -> Carried
     ensures { λ r. ⌜ Carries a (tables (now (place .entry)) (now (file .entry)) (now (size .entry)) (now (cost .entry)) (now (freq .entry)) (now (key .entry)) (now (stamp .entry)) (now (queue .entry))) (now (events .entry)) r (tables (now (place .exit)) (now (file .exit)) (now (size .exit)) (now (cost .exit)) (now (freq .exit)) (now (key .exit)) (now (stamp .exit)) (now (queue .exit))) (now (events .exit)) (unit .0) (now (part .entry)) ⌝ }
 {
-    let answer = judge_settings(
+    let settled = judge_settings(
         unit,
         a,
         place.len(),
@@ -116,12 +117,12 @@ pub fn carry_on(
         stamp.len(),
         queue.len(),
     );
-    match answer {
-        Answer::Refused(x) => Carried {
+    match settled {
+        Settled::Refused(x) => Carried {
             answer: Answer::Refused(x),
             tally: a,
         },
-        Answer::Done(_) => carry_sound(
+        Settled::Fine => carry_sound(
             a,
             place,
             file,

@@ -6,7 +6,8 @@ use shelving::wide16;
 use shelving::wide32;
 use tables::Tally;
 ghost use Rattle.tables.specs.Tables.{tables};
-ghost use Rattle.replay.specs.Parts.{ReadyFor, ServedFor};
+ghost use Rattle.refusing.specs.Judging.{requestsIn};
+ghost use Rattle.replay.specs.Parts.{Ready, PartServed};
 
 // The tally after a part, and how many events it wrote.
 pub struct Ended {
@@ -31,8 +32,8 @@ pub(crate) fn serve_part(
     free: &mut [u16],
     events: &mut [u32],
 ) -> Ended
-    requires { ⌜ ReadyFor a (now part) count (tables (now place) (now file) (now size) (now cost) (now freq) (now key) (now stamp) (now queue)) (now entry) (now free) (now events) ⌝ }
-    ensures { λ r. ⌜ ServedFor a (now (part .entry)) (tables (now (place .entry)) (now (file .entry)) (now (size .entry)) (now (cost .entry)) (now (freq .entry)) (now (key .entry)) (now (stamp .entry)) (now (queue .entry))) (now (events .entry)) r (tables (now (place .exit)) (now (file .exit)) (now (size .exit)) (now (cost .exit)) (now (freq .exit)) (now (key .exit)) (now (stamp .exit)) (now (queue .exit))) (now (entry .exit)) (now (free .exit)) (now (events .exit)) ⌝ }
+    requires { ⌜ Ready a (now part) count (tables (now place) (now file) (now size) (now cost) (now freq) (now key) (now stamp) (now queue)) (now entry) (now free) (now events) ⌝ }
+    ensures { λ r. ⌜ PartServed (requestsIn a (now (part .entry))) a (tables (now (place .entry)) (now (file .entry)) (now (size .entry)) (now (cost .entry)) (now (freq .entry)) (now (key .entry)) (now (stamp .entry)) (now (queue .entry))) (now (events .entry)) r (tables (now (place .exit)) (now (file .exit)) (now (size .exit)) (now (cost .exit)) (now (freq .exit)) (now (key .exit)) (now (stamp .exit)) (now (queue .exit))) (now (entry .exit)) (now (free .exit)) (now (events .exit)) ⌝ }
 {
     let mut b = a;
     let mut at: usize = 0;
@@ -40,8 +41,8 @@ pub(crate) fn serve_part(
     let mut i: usize = 0;
     while i < count {
         let q = trace::request_at(part, at);
-        let z = Bytes(wide32(q.size));
-        let w = Cost(wide16(q.cost) as u64);
+        let z = Bytes::size(wide32(q.size));
+        let w = Cost::asked(wide16(q.cost) as u64);
         let step = serve(
             b,
             wide16(q.file),

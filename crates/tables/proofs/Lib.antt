@@ -10,3 +10,4 @@ pub mod Twins
 pub mod Worked
 pub mod Deciding
 pub mod SoundDecided
+pub mod Renamings

@@ -61,7 +61,7 @@ module _ (s : Settings) (t : Tables) where
       decide-as (λ x. record { known = x .0; inside = x .1 .0; place = x .1 .1 .0; file = x .1 .1 .1 }) (λ o. (o .known, (o .inside, (o .place, o .file))))
       (decide-both (decide-lt f (s .catalogue .0)) (decide-both (decide-lt p (s .places .0)) (decide-both (same (getD (t .place) f 0) p) (same (getD (t .file) p 0) f))))
 
-  occupied : (p : ℕ) → Decided (Occupied s t p)
+  pub occupied : (p : ℕ) → Decided (Occupied s t p)
   occupied p = at (getD (t .file) p 0) p
 
   zero-at : (p : ℕ) → Decided (Zero t p)

@@ -5,3 +5,4 @@ pub mod Start
 pub mod Sound
 pub mod Below
 pub mod Worked
+pub mod Renaming
