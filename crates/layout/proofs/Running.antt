@@ -17,10 +17,10 @@ use Rattle.method.specs.Method.{State, Run, run, step, fresh}
 use Rattle.method.proofs.Runs.{events-length}
 use Rattle.method.proofs.Sound.{fresh-sound, fresh-files}
 use Rattle.trace.specs.Fields.{Field, val, off, field, onVal, isFile}
-use Rattle.trace.specs.Reading.{Read, good, stop, push, requests, readOf}
+use Rattle.trace.specs.Reading.{Read, good, stop, push, requests, readOf, rows}
 use Rattle.trace.specs.declared.answer.Answer.the-variants.{Done, Refused}
 use Rattle.trace.proofs.OneAnswer.{answer-one}
-use Rattle.trace.proofs.Ranges.{settled}
+use Rattle.trace.proofs.Ranges.{settled as fields}
 use Rattle.tables.specs.Tables.{Tables, tables, Long, isLong, cleared, shelfOf}
 use Rattle.tables.specs.Tally.{storeOf, policyIn, stateOf, freshTally}
 use Rattle.tables.specs.Start.{long, Freshly}
@@ -33,7 +33,8 @@ use Rattle.tables.proofs.Ranges.{bounded}
 use Rattle.tables.proofs.Shelves.{fresh-shelf}
 use Rattle.tables.proofs.Twins.{fresh-done, freshly-sound}
 use Rattle.replay.specs.Parts.{runFrom, tallyOf, eventsOf}
-use Rattle.replay.specs.Carrying.{Runs, Reads, Judges, Carries}
+use Rattle.refusing.specs.Judging.{fittingRead, fitting, settled}
+use Rattle.replay.specs.Carrying.{Runs, Answers, Judges, Carries}
 use Rattle.replay.specs.declared.carry.Carried.{Carried}
 use Rattle.layout.specs.Sheet.{ownPlaces, ownCatalogue, runOf, ranEvents}
 use Rattle.layout.specs.Steps.{OwnSized, RanOn, Ran}
@@ -111,15 +112,17 @@ module _ (s : Settings) (part told : List ℕ) (h : OwnSized s part told) (t : T
           x .written ∙ ap (λ (y : Run State). sets told 0 (eventsOf qs y)) e,
         )
 
-    ran-read : (z : Read) → readOf (length part) (s .catalogue .0) part ≡ z → Reads (freshTally s) u told r w told′ z → RanOn s told r told′ z
+    ran-read : (z : Read) → readOf (length part) (s .catalogue .0) part ≡ z → Answers (freshTally s) u told r w told′ part (fittingRead (freshTally s) (length told) z) → RanOn s told r told′ z
     ran-read (stop x) e y = answer-one (r .answer) (Refused x) (y .answer)
     ran-read (good qs) e y =
         let few : length qs ≤ length part = few-requests (length part) (s .catalogue .0) part qs e in
-        ran-good qs (rw (le-leb (0 + length qs) requestsMost (omega (arith, h .given .short)), le-leb (2 * length qs + 0) (length told) (omega (arith, h .given .short, h .events))) at y)
+        let ran = rw (le-leb (0 + length qs) requestsMost (omega (arith, h .given .short)), le-leb (2 * length qs + 0) (length told) (omega (arith, h .given .short, h .events))) at y in
+        ran-good qs (subst (λ (l : List Request). Runs l (freshTally s) u told r w told′) (ap rows e) ran)
 
     ran-fresh : Carries (freshTally s) u told r w told′ (s .unit .0) part → Ran s part told r told′
+    unfolding settled fitting
     ran-fresh y =
-        let l : isUnit (s .unit .0) && inRange s ≡ true = rw (settled s (h .given .ranged) .unit, h .given .ranged) refl in
+        let l : isUnit (s .unit .0) && inRange s ≡ true = rw (fields s (h .given .ranged) .unit, h .given .ranged) refl in
         let j : Judges (freshTally s) u told r w told′ part = rw (l, long-after, eq-eqb (s .unit .0) (s .unit .0) refl) at y in
         record { ran = ran-read (readOf (length part) (s .catalogue .0) part) refl (j .sound (freshly-sound s t d u f (h .given .ranged) (long-is _ _ t k) .1)) }
 

@@ -42,7 +42,7 @@ use Rattle.replay.proofs.Walking.{good-one, stands}
 
 -- ---- a call that is done
 
-refusal-not-done : (x : Refusal) → cardOf x .number ≡ 0 → ⊥
+pub refusal-not-done : (x : Refusal) → cardOf x .number ≡ 0 → ⊥
 refusal-not-done Setting e = absurd (omega (arith, e))
 refusal-not-done Short e = absurd (omega (arith, e))
 refusal-not-done (Form v) e = absurd (omega (arith, e))

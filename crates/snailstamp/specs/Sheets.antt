@@ -1,4 +1,4 @@
--- What the sheet promises in words (the boundary page). Assumes nothing.
+-- What the sheet promises in words (docs/BOUNDARY.md). Assumes nothing.
 use mathlib.Core.Path.{_≡_}
 use mathlib.Core.List.{List, [], _∷_}
 use Prim.Native.Nat.{ℕ}

@@ -15,9 +15,10 @@ use Rattle.tables.specs.declared.start.Started.{Started}
 use Rattle.tables.specs.declared.start.Started.the-variants.{Done, Refused}
 use Rattle.replay.specs.declared.carry.Carried.{Carried}
 use Rattle.words.specs.Words.{answerWord}
+use Rattle.snailstamp.specs.Run.{carriedWords}
 use Rattle.snailstamp.specs.Traces.{placed, fileTaken}
 
--- the boundary page: the word of a fresh start, 0 when done
+-- docs/BOUNDARY.md: the word of a fresh start, 0 when done
 abbrev pub startedWord : Started → ℕ
 startedWord (Done a) = 0
 startedWord (Refused x) = answerWord (cardOf x)
@@ -32,12 +33,12 @@ pub record PutStarted (x : Started) (w : List ℕ) (r : ℕ) (w′ : List ℕ) :
   pub answer : r ≡ startedWord x
   pub tally : w′ ≡ startedWords x w
 
--- the boundary page: the word of a run carried on, and its tally over the front of the words
+-- what `put_carried` promises: the word of a run carried on, and its tally's words where it is done
 pub record PutCarried (x : Carried) (w : List ℕ) (r : ℕ) (w′ : List ℕ) : Type 0 where
   pub answer : r ≡ answerWord (answerCard (x .answer))
-  pub tally : w′ ≡ over (words (x .tally)) w
+  pub tally : w′ ≡ carriedWords (x .answer) (x .tally) w
 
--- the boundary page: the word of a file read, with the number of requests when done
+-- docs/BOUNDARY.md: the word of a file read, with the number of requests when done
 abbrev pub readWord : file.FileRead → ℕ
 readWord (file.the-variants.Done s n) = answerWord (answerCard (answer.the-variants.Done n))
 readWord (file.the-variants.Refused x) = answerWord (cardOf x)

@@ -5,6 +5,7 @@ use replay::Carried;
 use replay::carry_on;
 use tables::Started;
 use tables::fresh;
+use trace::Answer;
 use words::answer_word;
 use words::put_words;
 use words::refusal_word;
@@ -36,14 +37,21 @@ fn put_started(started: Started, out: &mut [u64]) -> u64
     }
 }
 
-// The answer of a run carried on, and its tally over the front of the words.
+// The answer of a run carried on; where it was not refused, its tally over the front of the words.
 fn put_carried(carried: Carried, out: &mut [u64]) -> u64
     requires { ⌜ tallyWords ≤ length (now out) ⌝ }
     ensures { λ r. ⌜ PutCarried carried (now (out .entry)) r (now (out .exit)) ⌝ }
 {
-    put_words(carried.tally, out);
     let answer = carried.answer;
-    answer_word(answer)
+    match answer {
+        Answer::Refused(refusal) => {
+            return refusal_word(refusal);
+        }
+        Answer::Done(count) => {
+            put_words(carried.tally, out);
+            return answer_word(Answer::Done(count));
+        }
+    }
 }
 
 // A fresh start over the lent tables, its tally over the front of the lent words.
@@ -77,7 +85,7 @@ pub extern "C" fn snailstamp_fresh(
     put_started(started, tally)
 }
 
-// A run carried on; a refusal puts back the tally that it was given.
+// A run carried on over the tally that the words stand for.
 #[no_mangle]
 pub extern "C" fn snailstamp_carry_on(
     unit: u64,

@@ -1,4 +1,4 @@
--- An answer, settings and a tally as words (the boundary page). Assumes nothing.
+-- An answer, settings and a tally as words (docs/BOUNDARY.md). Assumes nothing.
 use Prim.Native.Nat.{ℕ, _+_, _*_, _%_}
 use mathlib.Core.List.{List}
 use lib.ListN.{getD}
@@ -6,28 +6,28 @@ use Rattle.amounts.specs.declared.settings.Settings.{Settings}
 use Rattle.card.specs.Card.{Card, valueOf}
 use Rattle.tables.specs.declared.tally.Tally.{Tally}
 
--- the boundary page: value * 256 + number. A word has room for values below 2^56. A slice may in principle be longer, though no memory is: the value is taken modulo 2^56, so that the promise is exact for every input
+-- docs/BOUNDARY.md: value * 256 + number. A word has room for values below 2^56. A slice may in principle be longer, though no memory is: the value is taken modulo 2^56, so that the promise is exact for every input
 unfoldable pub wordOf : ℕ → ℕ → ℕ
 wordOf value number = value % 72057594037927936 * 256 + number
 
--- the boundary page: the number is document 01's, the value what that number returns, else 0
+-- docs/BOUNDARY.md: the number is document 01's, the value what that number returns, else 0
 unfoldable pub answerWord : Card → ℕ
 answerWord c = wordOf (valueOf c) (c .number)
 
--- the boundary page: how many words a tally has
+-- docs/BOUNDARY.md: how many words a tally has
 abbrev pub tallyWords : ℕ
 tallyWords = 17
 
--- the boundary page: how many words settings have
+-- docs/BOUNDARY.md: how many words settings have
 abbrev pub settingsWords : ℕ
 settingsWords = 5
 
--- the boundary page: settings are five numbers in document 01's order
+-- docs/BOUNDARY.md: settings are five numbers in document 01's order
 abbrev pub settingsFrom : ℕ → ℕ → ℕ → ℕ → ℕ → Settings
 settingsFrom unit policy capacity places catalogue =
     record { unit = record { 0 = unit }; policy = record { 0 = policy }; capacity = record { 0 = capacity }; places = record { 0 = places }; catalogue = record { 0 = catalogue } }
 
--- the boundary page: the tally of words in document 01's order, which `words` gives back
+-- docs/BOUNDARY.md: the tally of words in document 01's order, which `words` gives back
 unfoldable pub tallyIn : List ℕ → Tally
 tallyIn w =
     record {
