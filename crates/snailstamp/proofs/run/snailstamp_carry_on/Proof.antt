@@ -6,6 +6,25 @@ use Rattle.snailstamp.proofs.Carrying.{carried-setting, carried-few, ca
 use Rattle.snailstamp.proofs.run.snailstamp_carry_on.Statement.{statement}
 use Rattle.snailstamp.proofs.run.snailstamp_carry_on.Tie as tie
 
+-- ---- the ways back, each to a place that a need reads
+
+abbrev events→carry-on : tie.After-events → tie.After-carry-on
+events→carry-on c = c .before .before .before .before .before .before .before .before .before .before .before .before .before .before .before .before .before
+
+abbrev carry-on→tally-from : tie.After-carry-on → tie.After-tally-from
+carry-on→tally-from c = c .before .before .before .before .before .before .before .before .before .before
+
+abbrev carry-on→else2 : tie.After-carry-on → tie.Else2
+carry-on→else2 c = carry-on→tally-from c .before .before
+
+abbrev tally→put-carried : tie.After-tally → tie.After-put-carried
+tally→put-carried c = c .before
+
+abbrev put-carried→carry-on : tie.After-put-carried → tie.After-carry-on
+put-carried→carry-on c = c .before .before .before .before .before .before .before .before .before .before .before .before .before .before .before .before .before .before .before .before
+
+-- ---- the answers
+
 is-unit-requires : tie.Need-is-unit-requires
 is-unit-requires c κs = search needs
 
@@ -28,7 +47,7 @@ carry-on-requires : tie.Need-carry-on-requires
 carry-on-requires c κs = search needs
 
 put-carried-requires : tie.Need-put-carried-requires
-put-carried-requires c κs = c .before .before .before .before .before .before .before .before .before .before .before .before .before .before .before .before .before .before .before .before .before .before .before .before .before .before .before .before .before .before .before .if2 .left
+put-carried-requires c κs = carry-on→else2 (events→carry-on (c .before .before)) .if2 .left
 
 same-length : tie.Need-same-length
 same-length c = search needs
@@ -62,8 +81,10 @@ same-length-10 c = search needs
 
 returns-3 : tie.Need-returns-3
 returns-3 c =
-    let tested = c .before .before .before .before .before .before .before .before .before .before .before .before .before .before .before .before .before .before .before .before .before .before .before .before .before .before .before .before .before .before .before .before .before .before in
-    carried-on _ _ _ _ _ _ _ _ _ _ _ (allowed (tested .before .before .is-unit .ensures) (tested .before .if1 .left)) (le-leb _ _ (tested .if2 .left)) (c .before .before .before .before .before .before .before .before .before .before .before .before .before .before .before .before .before .before .before .before .before .before .before .before .before .before .before .before .before .before .before .before .tally-from .ensures) (c .before .before .before .before .before .before .before .before .before .before .before .before .before .before .before .before .before .before .before .before .before .before .carry-on .ensures) (c .before .before .put-carried .ensures)
+    let at-carry-on = put-carried→carry-on (tally→put-carried (c .before)) in
+    let at-tally-from = carry-on→tally-from at-carry-on in
+    let tested = at-tally-from .before .before in
+    carried-on _ _ _ _ _ _ _ _ _ _ _ (allowed (tested .before .before .is-unit .ensures) (tested .before .if1 .left)) (le-leb _ _ (tested .if2 .left)) (at-tally-from .tally-from .ensures) (at-carry-on .carry-on .ensures) (c .before .before .put-carried .ensures)
 
 pub snailstamp-carry-on-spec : {M : Type 1} → statement M
 snailstamp-carry-on-spec =

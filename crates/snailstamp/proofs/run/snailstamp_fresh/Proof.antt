@@ -8,6 +8,22 @@ use Rattle.snailstamp.proofs.Starting.{fresh-setting, fresh-few, fresh-
 use Rattle.snailstamp.proofs.run.snailstamp_fresh.Statement.{statement}
 use Rattle.snailstamp.proofs.run.snailstamp_fresh.Tie as tie
 
+-- ---- the ways back, each to a place that a need reads
+
+abbrev queue→fresh : tie.After-queue → tie.After-fresh
+queue→fresh c = c .before .before .before .before .before .before .before .before .before .before .before .before .before .before .before
+
+abbrev fresh→else2 : tie.After-fresh → tie.Else2
+fresh→else2 c = c .before .before .before .before .before .before .before .before .before
+
+abbrev tally→put-started : tie.After-tally → tie.After-put-started
+tally→put-started c = c .before
+
+abbrev put-started→fresh : tie.After-put-started → tie.After-fresh
+put-started→fresh c = c .before .before .before .before .before .before .before .before .before .before .before .before .before .before .before .before .before .before
+
+-- ---- the answers
+
 settings-from-requires : tie.Need-settings-from-requires
 settings-from-requires c κs = search needs
 
@@ -34,7 +50,7 @@ fresh-requires : tie.Need-fresh-requires
 fresh-requires c κs = search needs
 
 put-started-requires : tie.Need-put-started-requires
-put-started-requires c κs = c .before .before .before .before .before .before .before .before .before .before .before .before .before .before .before .before .before .before .before .before .before .before .before .before .before .before .if2 .left
+put-started-requires c κs = fresh→else2 (queue→fresh (c .before .before)) .if2 .left
 
 same-length : tie.Need-same-length
 same-length c = search needs
@@ -65,10 +81,11 @@ same-length-9 c = search needs
 
 returns-3 : tie.Need-returns-3
 returns-3 c =
-    let tested = c .before .before .before .before .before .before .before .before .before .before .before .before .before .before .before .before .before .before .before .before .before .before .before .before .before .before .before .before .before in
+    let at-fresh = put-started→fresh (tally→put-started (c .before)) in
+    let tested = fresh→else2 at-fresh in
     let made = tested .before .before .before .settings-from .ensures in
     let ranged = ap inRange (sym made) ∙ allowed (tested .before .before .in-range .ensures) (tested .before .if1 .left) in
-    fresh-put _ _ _ ranged (le-leb _ _ (tested .if2 .left)) _ _ _ made (c .before .before .before .before .before .before .before .before .before .before .before .before .before .before .before .before .before .before .before .before .fresh .ensures) _ _ (c .before .before .put-started .ensures)
+    fresh-put _ _ _ ranged (le-leb _ _ (tested .if2 .left)) _ _ _ made (at-fresh .fresh .ensures) _ _ (c .before .before .put-started .ensures)
 
 pub snailstamp-fresh-spec : {M : Type 1} → statement M
 snailstamp-fresh-spec =

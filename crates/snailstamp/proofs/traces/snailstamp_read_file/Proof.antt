@@ -4,6 +4,16 @@ use Rattle.snailstamp.proofs.Tracing.{file-unread, file-put}
 use Rattle.snailstamp.proofs.traces.snailstamp_read_file.Statement.{statement}
 use Rattle.snailstamp.proofs.traces.snailstamp_read_file.Tie as tie
 
+-- ---- the ways back, each to a place that a need reads
+
+abbrev settings→put-read : tie.After-settings → tie.After-put-read
+settings→put-read c = c .before
+
+abbrev put-read→read-file : tie.After-put-read → tie.After-read-file
+put-read→read-file c = c .before .before .before .before .before .before .before .before
+
+-- ---- the answers
+
 refused-unread-requires : tie.Need-refused-unread-requires
 refused-unread-requires c κs = search needs
 
@@ -32,7 +42,10 @@ same-length-4 : tie.Need-same-length-4
 same-length-4 c = search needs
 
 returns-2 : tie.Need-returns-2
-returns-2 c = file-put _ _ _ _ _ (c .before .before .before .before .before .before .before .before .before .before .before .before .before .before .if1 .left) _ _ _ _ (c .before .before .before .before .before .before .before .before .before .before .read-file .ensures) _ _ (c .before .before .put-read .ensures)
+returns-2 c =
+    let at-read-file = put-read→read-file (settings→put-read (c .before)) in
+    let at-else1 = at-read-file .before .before .before .before in
+    file-put _ _ _ _ _ (at-else1 .if1 .left) _ _ _ _ (at-read-file .read-file .ensures) _ _ (c .before .before .put-read .ensures)
 
 pub snailstamp-read-file-spec : {M : Type 1} → statement M
 snailstamp-read-file-spec =
