@@ -62,7 +62,21 @@ pub fn put_page(a: Tally, events: &[u32], count: usize, out: &mut [u8]) -> usize
     let at_events = put_item(b"unit", a.settings.unit.0, b'\n', out, 0);
     let at_counts = put_events(events, count, out, at_events);
     let at_bytes = put_counts(a, out, at_counts);
-    let at_costs = put_asked(b"bytes", a.bytes_asked.0, b"hitbytes", a.hit_bytes.0, out, at_bytes);
-    let at_last = put_asked(b"cost", a.cost_asked.0, b"hitcost", a.hit_cost.0, out, at_costs);
+    let at_costs = put_asked(
+        b"bytes",
+        a.bytes_asked.0,
+        b"hitbytes",
+        a.hit_bytes.0,
+        out,
+        at_bytes,
+    );
+    let at_last = put_asked(
+        b"cost",
+        a.cost_asked.0,
+        b"hitcost",
+        a.hit_cost.0,
+        out,
+        at_costs,
+    );
     put_last(a, out, at_last)
 }
