@@ -82,8 +82,9 @@ module _ (s : Settings) (part : List ℕ) where
           go (good qs) i q =
               let es : List ℕ = ranEvents s qs in
               let n : length es ≡ count = cc (q .0) in
+              let ranged = part-ranged (length part) (s .catalogue .0) qs part i in
               let few : length es ≤ length told =
-              omega (arith, few-events s (h .given .ranged) qs (part-ranged (length part) (s .catalogue .0) qs part i), few-requests (length part) (s .catalogue .0) part qs i, h .given .short, h .events) in
+              omega (arith, few-events s (h .given .ranged) qs ranged, few-requests (length part) (s .catalogue .0) part qs i, h .given .short, h .events) in
               let same : page (r .tally) (take count told′) ≡ ofRead s (good qs) =
               (λ j. page (q .1 j) (take-laid es told told′ count few (record { placed = q .2; ends = omega arith }) j)) in
               record {
