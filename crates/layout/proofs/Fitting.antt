@@ -7,15 +7,14 @@ use mathlib.Core.Logic.{_⊎_, inl, inr}
 use native.Mathlib.Omega.{arith}
 use native.Mathlib.Nat.{pow-suc}
 use borrow.Author.Tests.{leb-true}
-use lib.Dec.{leb, ltb, eqb}
+use lib.Dec.{leb, eqb}
 use lib.ListN.{length, length-append}
 use Rattle.amounts.specs.Limits.{pick, catalogueMost}
 use Rattle.amounts.specs.declared.settings.Settings.{Settings}
 use Rattle.amounts.proofs.Tests.{below}
 use Rattle.card.specs.Card.{cardOf}
-use Rattle.trace.specs.Number.{Num, num, bad, before, closing, groups, decode}
 use Rattle.trace.specs.Reading.{Read, good, stop, readOf, Opened, opened, shut, settingsOf}
-use Rattle.trace.proofs.Taking.{five}
+use Rattle.trace.proofs.Taking.{five, five-after}
 use Rattle.trace.proofs.RoundTrip.{part-ranged}
 use Rattle.tables.specs.declared.tally.Tally.{Tally}
 use Rattle.lines.specs.Decimal.{decimal}
@@ -70,56 +69,41 @@ page-short : (a : Tally) (es : List ℕ) → length (page a es) ≤ 12 * length 
 unfolding page
 page-short a es =
     simp length-append
-    (omega
-    (arith, events-short es, item-short word.unit (a .settings .unit .0) lineFeed 4 (omega arith), item-short word.requests (a .requests) space 8 (omega arith), item-short word.hits (a .hits) space 4 (omega arith), item-short word.admitted (a .admitted) space 8 (omega arith), item-short word.passed (a .passed) space 6 (omega arith), item-short word.evicted (a .evicted) lineFeed 7 (omega arith), item-short word.bytes (a .«bytes_asked» .0) space 5 (omega arith), item-short word.hitbytes (a .«hit_bytes» .0) lineFeed 8 (omega arith), item-short word.cost (a .«cost_asked» .0) space 4 (omega arith), item-short word.hitcost (a .«hit_cost» .0) lineFeed 7 (omega arith), item-short word.inflation (a .inflation .0) space 1 (omega arith), item-short word.used (a .«bytes_kept» .0) space 4 (omega arith), item-short word.files (a .«files_kept») lineFeed 5 (omega arith)))
+    (omega (
+      arith,
+      events-short es,
+      item-short word.unit (a .settings .unit .0) lineFeed 4 (omega arith),
+      item-short word.requests (a .requests) space 8 (omega arith),
+      item-short word.hits (a .hits) space 4 (omega arith),
+      item-short word.admitted (a .admitted) space 8 (omega arith),
+      item-short word.passed (a .passed) space 6 (omega arith),
+      item-short word.evicted (a .evicted) lineFeed 7 (omega arith),
+      item-short word.bytes (a .«bytes_asked» .0) space 5 (omega arith),
+      item-short word.hitbytes (a .«hit_bytes» .0) lineFeed 8 (omega arith),
+      item-short word.cost (a .«cost_asked» .0) space 4 (omega arith),
+      item-short word.hitcost (a .«hit_cost» .0) lineFeed 7 (omega arith),
+      item-short word.inflation (a .inflation .0) space 1 (omega arith),
+      item-short word.used (a .«bytes_kept» .0) space 4 (omega arith),
+      item-short word.files (a .«files_kept») lineFeed 5 (omega arith),
+    ))
 
 -- ---- the sheet of requests that were read
 
 pub read-fits : (s : Settings) (part : List ℕ) → Given s part → (z : Read) → readOf (length part) (s .catalogue .0) part ≡ z → length (ofRead s z) ≤ sheetMost
 read-fits s part g (stop r) e = omega (arith, refused-short (cardOf r .number))
 read-fits s part g (good qs) e =
-    omega (arith, page-short (ranTally s qs) (ranEvents s qs), few-events s (g .ranged) qs (part-ranged (length part) (s .catalogue .0) qs part e), few-requests (length part) (s .catalogue .0) part qs e, g .short)
+    let ranged = part-ranged (length part) (s .catalogue .0) qs part e in
+    omega (arith, page-short (ranTally s qs) (ranEvents s qs), few-events s (g .ranged) qs ranged, few-requests (length part) (s .catalogue .0) part qs e, g .short)
 
 -- ---- the bytes after the settings are fewer
-
-restOf : Num → List ℕ
-restOf (num v rest) = rest
-restOf bad = []
-
-rest-before : (b : ℕ) (x : Num) → restOf (before b x) ≡ restOf x
-unfolding restOf
-rest-before b (num v rest) = refl
-rest-before b bad = refl
-
-rest-closing : (first : Bool) (b : ℕ) (s : List ℕ) → length (restOf (closing first b s)) ≤ length s
-unfolding restOf
-rest-closing true b s = omega arith
-rest-closing false b s = go (eqb b 0)
-  where
-    go : (t : Bool) → length (restOf (pick t bad (num (b % 128) s))) ≤ length s
-    go true = omega arith
-    go false = omega arith
-
-rest-groups : (k : ℕ) (first : Bool) (s : List ℕ) → length (restOf (groups k first s)) ≤ length s
-unfolding restOf
-rest-groups zero first s = omega arith
-rest-groups (suc k) first [] = omega arith
-rest-groups (suc k) first (b ∷ s) = go (ltb b 128) (rest-groups k false s)
-  where
-    go : (t : Bool) → length (restOf (groups k false s)) ≤ length s → length (restOf (pick t (closing first b s) (before b (groups k false s)))) ≤ suc (length s)
-    go true h = omega (arith, rest-closing first b s)
-    go false h = omega (arith, h, ap length (rest-before b (groups k false s)))
-
-shorter : (s : List ℕ) (v : ℕ) (rest : List ℕ) → decode s ≡ num v rest → length rest ≤ length s
-unfolding restOf
-shorter s v rest e = omega (arith, rest-groups 6 true s, ap (λ (x : Num). length (restOf x)) e)
 
 opened-given : (trace : List ℕ) (s : Settings) (rest : List ℕ) → length trace ≤ inputMost → settingsOf (length trace) trace ≡ opened s rest → Given s rest
 opened-given trace s rest h e =
     let f = five (length trace) trace s rest e in
+    let p = five-after f in
     record {
       ranged = f .in-range;
-      short = omega (arith, h, shorter trace (s .unit .0) (f .s₁) (f .unit), shorter (f .s₁) (s .policy .0) (f .s₂) (f .policy), shorter (f .s₂) (s .capacity .0) (f .s₃) (f .capacity), shorter (f .s₃) (s .places .0) (f .s₄) (f .places), shorter (f .s₄) (s .catalogue .0) rest (f .catalogue));
+      short = omega (arith, h, ap length (p .same), length-append (p .front) rest);
     }
 
 -- ---- every sheet

@@ -41,7 +41,8 @@ use Rattle.layout.specs.Steps.{OwnSized, RanOn, Ran}
 
 -- ---- no part has more requests than bytes
 
-onVal-few : (l : List Request) (m : ℕ) (x : Field) (next : ℕ → List ℕ → Read) → ((v : ℕ) (s : List ℕ) → next v s ≡ good l → length l ≤ m) → onVal stop x next ≡ good l → length l ≤ m
+onVal-few : (l : List Request) (m : ℕ) (x : Field) (next : ℕ → List ℕ → Read) → ((v : ℕ) (s : List ℕ) → next v s ≡ good l → length l ≤ m)
+    → onVal stop x next ≡ good l → length l ≤ m
 onVal-few l m (val v s) next h e = h v s e
 onVal-few l m (off r) next h e = let z : _≡_ {A = ℕ} 0 1 = cc in absurd (omega arith)
 

@@ -13,9 +13,10 @@ use Rattle.card.specs.declared.Refusal.{Refusal}
 use Rattle.card.specs.declared.Refusal.the-variants.{Room}
 use Rattle.trace.specs.Reading.{Read, good, stop, readOf, Opened, opened, shut, settingsOf}
 use Rattle.trace.specs.Stores.{Roomy, Laid}
-use Rattle.trace.specs.Steps.{StartAt}
+use Rattle.trace.specs.Cards.{openingCard, openingAnswer}
 use Rattle.trace.specs.declared.answer.Answer.the-variants.{Done, Refused}
 use Rattle.trace.specs.declared.answer.Start as start
+use Rattle.trace.proofs.Answers.{start-shut, start-at}
 use Rattle.trace.proofs.Taking.{five}
 use Rattle.trace.proofs.Laying.{laid-over}
 use Rattle.trace.proofs.RoundTrip.{part-ranged}
@@ -81,8 +82,9 @@ module _ (s : Settings) (part : List ℕ) where
           go (good qs) i q =
               let es : List ℕ = ranEvents s qs in
               let n : length es ≡ count = cc (q .0) in
+              let ranged = part-ranged (length part) (s .catalogue .0) qs part i in
               let few : length es ≤ length told =
-              omega (arith, few-events s (h .given .ranged) qs (part-ranged (length part) (s .catalogue .0) qs part i), few-requests (length part) (s .catalogue .0) part qs i, h .given .short, h .events) in
+              omega (arith, few-events s (h .given .ranged) qs ranged, few-requests (length part) (s .catalogue .0) part qs i, h .given .short, h .events) in
               let same : page (r .tally) (take count told′) ≡ ofRead s (good qs) =
               (λ j. page (q .1 j) (take-laid es told told′ count few (record { placed = q .2; ends = omega arith }) j)) in
               record {
@@ -98,17 +100,17 @@ module _ (trace : List ℕ) where
   unfolding sheetOf
   too-long h = rw (lt-leb (length trace) inputMost h)
 
-  module _ (h : length trace ≤ inputMost) (r : start.Start) (a : StartAt trace r) where
+  module _ (h : length trace ≤ inputMost) (r : start.Start) (a : openingCard r ≡ openingAnswer trace) where
     begins : (x : Opened) → settingsOf (length trace) trace ≡ x → sheetOf trace ≡ ofFile x
     unfolding sheetOf
     begins x e = rw (le-leb (length trace) inputMost h, e)
 
     pub start-refused : (x : Refusal) → r ≡ start.the-variants.Refused x → sheetOf trace ≡ refusedLine (cardOf x .number)
-    start-refused x e = begins (shut x) (subst (StartAt trace) e a)
+    start-refused x e = begins (shut x) (start-shut trace r x a e)
 
     module _ (s : Settings) (at : ℕ) (e : r ≡ start.the-variants.At s at) where
       found : (at ≤ length trace) × (settingsOf (length trace) trace ≡ opened s (drop at trace))
-      found = subst (StartAt trace) e a
+      found = start-at trace r s at a e
 
       pub start-inside : at ≤ length trace
       start-inside = found .0

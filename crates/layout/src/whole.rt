@@ -38,10 +38,10 @@ fn put_file(settings: Settings, part: &[u8], text: &mut [u8]) -> usize
     requires { ⌜ Ample (now text) ⌝ }
     ensures { λ r. ⌜ Laid (ofFile (opened settings (now (part .entry)))) 0 (now (text .entry)) (now (text .exit)) r ⌝ }
 {
-    if OWN_PLACES < settings.places.0 {
+    if OWN_PLACES < settings.places.count() {
         return put_refused(2, text);
     }
-    if OWN_CATALOGUE < settings.catalogue.0 {
+    if OWN_CATALOGUE < settings.catalogue.count() {
         return put_refused(2, text);
     }
     let mut events = [0u32; OWN_EVENTS];

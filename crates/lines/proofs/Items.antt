@@ -87,7 +87,7 @@ module _ (e : ℕ) where
   abbrev kind : ℕ
   kind = e / catalogueMost
 
-  abbrev Line : List ℕ → Type 0
+  abbrev pub Line : List ℕ → Type 0
   Line w = eventLine e ≡ item w (e % catalogueMost) lineFeed
 
   pub hit-line : kind ≡ 1 → Line word.hit

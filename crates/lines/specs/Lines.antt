@@ -37,13 +37,17 @@ abbrev pub countsLine : Tally → List ℕ
 countsLine a =
     item word.requests (a .requests) space ++ (item word.hits (a .hits) space ++ (item word.admitted (a .admitted) space ++ (item word.passed (a .passed) space ++ item word.evicted (a .evicted) lineFeed)))
 
+-- document 01, "The sheet": what was asked, and what hits had of it
+abbrev pub askedLine : List ℕ → ℕ → List ℕ → ℕ → List ℕ
+askedLine w n h m = item w n space ++ item h m lineFeed
+
 -- document 01, "The sheet": bytes asked and hit bytes
 abbrev pub bytesLine : Tally → List ℕ
-bytesLine a = item word.bytes (a .«bytes_asked» .0) space ++ item word.hitbytes (a .«hit_bytes» .0) lineFeed
+bytesLine a = askedLine word.bytes (a .«bytes_asked» .0) word.hitbytes (a .«hit_bytes» .0)
 
 -- document 01, "The sheet": cost asked and hit cost
 abbrev pub costLine : Tally → List ℕ
-costLine a = item word.cost (a .«cost_asked» .0) space ++ item word.hitcost (a .«hit_cost» .0) lineFeed
+costLine a = askedLine word.cost (a .«cost_asked» .0) word.hitcost (a .«hit_cost» .0)
 
 -- document 01, "The sheet": the last line gives inflation, bytes kept and files kept
 abbrev pub lastLine : Tally → List ℕ

@@ -1,6 +1,10 @@
 // A word with its number, and the line of an event.
 use crate::decimal::put_decimal;
 use amounts::Catalogue;
+use method::ADMIT;
+use method::BIG;
+use method::HIT;
+use method::LOW;
 ghost use lib.ListN.{take};
 ghost use Rattle.trace.specs.Stores.{Roomy, Laid};
 ghost use Rattle.lines.specs.Lines.{item, eventLine};
@@ -36,18 +40,18 @@ pub(crate) fn put_event(event: u32, out: &mut [u8], at: usize) -> usize
     requires { ⌜ Roomy (eventLine event) at (now out) ⌝ }
     ensures { λ r. ⌜ Laid (eventLine event) at (now (out .entry)) (now (out .exit)) r ⌝ }
 {
-    let kind = event as u64 / Catalogue::MOST;
-    let file = event as u64 % Catalogue::MOST;
-    if kind == 1 {
+    let kind = event / Catalogue::MOST as u32;
+    let file = (event % Catalogue::MOST as u32) as u64;
+    if kind == HIT {
         return put_item(b"hit", file, b'\n', out, at);
     }
-    if kind == 2 {
+    if kind == ADMIT {
         return put_item(b"admit", file, b'\n', out, at);
     }
-    if kind == 3 {
+    if kind == BIG {
         return put_item(b"big", file, b'\n', out, at);
     }
-    if kind == 4 {
+    if kind == LOW {
         return put_item(b"low", file, b'\n', out, at);
     }
     put_item(b"evict", file, b'\n', out, at)

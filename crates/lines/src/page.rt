@@ -4,7 +4,7 @@ use crate::line::put_item;
 use tables::Tally;
 ghost use lib.ListN.{take};
 ghost use Rattle.trace.specs.Stores.{Roomy, Laid};
-ghost use Rattle.lines.specs.Lines.{eventLines, countsLine, bytesLine, costLine, lastLine, page};
+ghost use Rattle.lines.specs.Lines.{eventLines, countsLine, askedLine, lastLine, page};
 ghost use Rattle.lines.specs.Laying.{Events};
 
 // The lines of the first events of a list, from a place on; the place after them.
@@ -34,22 +34,13 @@ fn put_counts(a: Tally, out: &mut [u8], at: usize) -> usize
     put_item(b"evicted", a.evicted, b'\n', out, at_evicted)
 }
 
-// The line of the bytes, from a place on; the place after it.
-fn put_asked(a: Tally, out: &mut [u8], at: usize) -> usize
-    requires { ⌜ Roomy (bytesLine a) at (now out) ⌝ }
-    ensures { λ r. ⌜ Laid (bytesLine a) at (now (out .entry)) (now (out .exit)) r ⌝ }
+// The line of what was asked and of what hits had of it, from a place on; the place after it.
+fn put_asked(word: &[u8], n: u64, hit_word: &[u8], hit: u64, out: &mut [u8], at: usize) -> usize
+    requires { ⌜ Roomy (askedLine (now word) n (now «hit_word») hit) at (now out) ⌝ }
+    ensures { λ r. ⌜ Laid (askedLine (now (word .entry)) n (now («hit_word» .entry)) hit) at (now (out .entry)) (now (out .exit)) r ⌝ }
 {
-    let at_hit = put_item(b"bytes", a.bytes_asked.0, b' ', out, at);
-    put_item(b"hitbytes", a.hit_bytes.0, b'\n', out, at_hit)
-}
-
-// The line of the costs, from a place on; the place after it.
-fn put_costs(a: Tally, out: &mut [u8], at: usize) -> usize
-    requires { ⌜ Roomy (costLine a) at (now out) ⌝ }
-    ensures { λ r. ⌜ Laid (costLine a) at (now (out .entry)) (now (out .exit)) r ⌝ }
-{
-    let at_hit = put_item(b"cost", a.cost_asked.0, b' ', out, at);
-    put_item(b"hitcost", a.hit_cost.0, b'\n', out, at_hit)
+    let at_hit = put_item(word, n, b' ', out, at);
+    put_item(hit_word, hit, b'\n', out, at_hit)
 }
 
 // The last line, from a place on; the place after it.
@@ -71,7 +62,21 @@ pub fn put_page(a: Tally, events: &[u32], count: usize, out: &mut [u8]) -> usize
     let at_events = put_item(b"unit", a.settings.unit.0, b'\n', out, 0);
     let at_counts = put_events(events, count, out, at_events);
     let at_bytes = put_counts(a, out, at_counts);
-    let at_costs = put_asked(a, out, at_bytes);
-    let at_last = put_costs(a, out, at_costs);
+    let at_costs = put_asked(
+        b"bytes",
+        a.bytes_asked.0,
+        b"hitbytes",
+        a.hit_bytes.0,
+        out,
+        at_bytes,
+    );
+    let at_last = put_asked(
+        b"cost",
+        a.cost_asked.0,
+        b"hitcost",
+        a.hit_cost.0,
+        out,
+        at_costs,
+    );
     put_last(a, out, at_last)
 }

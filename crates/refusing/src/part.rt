@@ -26,7 +26,7 @@ pub fn room_for(a: Tally, part: &[u8], told: usize) -> Answer
     requires { ⌜ Judgeable a ⌝ }
     ensures { λ r. ⌜ r ≡ fitting a (now (part .entry)) told ⌝ }
 {
-    let found = scan(part, a.settings.catalogue.0, 0);
+    let found = scan(part, a.settings.catalogue, 0);
     match found {
         Answer::Refused(x) => Answer::Refused(x),
         Answer::Done(count) => has_room(a, count, told),

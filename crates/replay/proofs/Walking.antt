@@ -132,13 +132,20 @@ module _ (b : Tally) (t : Tables) (entry free told : List ℕ) (e : ℕ) (q : Re
 
 -- ---- a turn of the loop
 
+-- the catalogue is in range, as the run's settings are
+walk-catalogue : {a : Tally} {part : List ℕ} {count : ℕ} {t₀ : Tables} {told₀ : List ℕ} {t : Tables} {entry free told : List ℕ} {b : Tally} {at e i : ℕ}
+    → Walk a part count t₀ told₀ t entry free told b at e i → isCatalogue (a .settings .catalogue .0) ≡ true
+walk-catalogue {a} w =
+    let c : Bounded (a .settings) = bounded (a .settings) (subst (λ (x : Settings). inRange x ≡ true) (w .settings) (w .running .ranged)) in
+    in-one-to catalogueMost (a .settings .catalogue .0) (c .catalogue .0) (c .catalogue .1)
+
 pub walk-there : (a : Tally) (part : List ℕ) (count : ℕ) (t₀ : Tables) (told₀ : List ℕ) (t : Tables) (entry free told : List ℕ) (b : Tally) (at e i : ℕ)
     → Walk a part count t₀ told₀ t entry free told b at e i → i < count → Requested part at
 walk-there a part count t₀ told₀ t entry free told b at e i w more = go (w .rest) (w .left) (w .number)
   where
     go : (r : List Request) → readOf (length part) (a .settings .catalogue .0) (drop at part) ≡ good r → i + length r ≡ count → Requested part at
     go [] g n = absurd (omega arith)
-    go (q ∷ l) g n = record { n = length part; catalogue = a .settings .catalogue .0; q = q; after = l; reads = g }
+    go (q ∷ l) g n = record { n = length part; catalogue = a .settings .catalogue .0; catalogue-in = walk-catalogue w; q = q; after = l; reads = g }
 
 module _ (a : Tally) (part : List ℕ) (count : ℕ) (t₀ : Tables) (told₀ : List ℕ) (t : Tables) (entry free told : List ℕ) (b : Tally) (at e i : ℕ)
     (w : Walk a part count t₀ told₀ t entry free told b at e i) (more : i < count) (y : Taken) (z : RequestAt part at y) where
@@ -156,12 +163,11 @@ module _ (a : Tally) (part : List ℕ) (count : ℕ) (t₀ : Tables) (told₀ : 
       go : (r : List Request) → w .rest ≡ r → readOf (length part) (a .settings .catalogue .0) (drop at part) ≡ good r → Turn
       go [] n g = absurd (omega (arith, w .number, ap (λ (x : List Request). length x) n))
       go (q ∷ l) n g =
-          let c : Bounded (a .settings) = bounded (a .settings) (subst (λ (x : Settings). inRange x ≡ true) (w .settings) (w .running .ranged)) in
           record {
             q = q;
             l = l;
             rest = n;
-            first = z .first (length part) (a .settings .catalogue .0) q l (in-one-to catalogueMost (a .settings .catalogue .0) (c .catalogue .0) (c .catalogue .1)) g;
+            first = z .first (length part) (a .settings .catalogue .0) q l (walk-catalogue w) g;
             ranged = part-ranged (length part) (a .settings .catalogue .0) (q ∷ l) (drop at part) g .0;
           }
 

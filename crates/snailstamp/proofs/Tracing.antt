@@ -4,7 +4,7 @@ use mathlib.Core.Bool.{Bool, true, false}
 use mathlib.Core.List.{List, [], _∷_, _++_}
 use Prim.Native.Nat.{ℕ, _≤_, _<_}
 use native.Mathlib.Omega.{arith}
-use lib.Dec.{leb, eqb}
+use lib.Dec.{leb}
 use lib.ListN.{length, take, getD}
 use borrow.Author.Tests.{le-leb, lt-leb}
 use Rattle.amounts.specs.Limits.{pick}
@@ -20,7 +20,7 @@ use Rattle.trace.specs.Promise.{over, Over, room, ReadPart, ReadFile, Wrote}
 use Rattle.trace.specs.declared.answer.Answer.{Answer}
 use Rattle.trace.specs.declared.answer.Answer.the-variants.{Done}
 use Rattle.trace.specs.declared.answer.FileRead as file
-use Rattle.trace.proofs.OneAnswer.{not-done}
+use Rattle.card.proofs.Cases.{done-not-refused}
 use Rattle.words.specs.Words.{answerWord}
 use Rattle.snailstamp.specs.Steps.{readWord, readWords, PutRead, Unread}
 use Rattle.snailstamp.specs.Traces.{inPlace, fileTaken, ReadFileAs, ReadFileWords, ReadPartWords, WroteWords}
@@ -84,7 +84,7 @@ module _ (trace w f s d : List ℕ) where
       where
         go : (z : Read) → cardOf x ≡ readCard (settingsRead (settingsOf (length trace) trace)) z → Over (rows z) f s d f′ s′ d′ → ReadFileAs z trace w f s d (answerWord (cardOf x)) w f′ s′ d′
         go (stop y) p o = record { answer = ap answerWord p; settings = refl; lists = o }
-        go (good l) p o = let z : _≡_ {A = Bool} false true = sym (not-done x) ∙ ap (λ (c : Card). eqb (c .number) 0) p in let y : _≡_ {A = ℕ} 0 1 = cc in absurd (omega arith)
+        go (good l) p o = absurd (done-not-refused x (sym p))
 
     file-done : (st : Settings) (n : ℕ) → a ≡ file.the-variants.Done st n → ReadFileWords trace w f s d (answerWord (answerCard (Done n))) (over (numbers st) w) f′ s′ d′
     unfolding answerWord
@@ -94,7 +94,7 @@ module _ (trace w f s d : List ℕ) where
       where
         go : (o : Opened) → settingsOf (length trace) trace ≡ o → (z : Read) → done (numbers st ++ (n ∷ [])) ≡ readCard (settingsRead o) z → Over (rows z) f s d f′ s′ d′
             → ReadFileAs z trace w f s d (answerWord (answerCard (Done n))) (over (numbers st) w) f′ s′ d′
-        go o k (stop y) p l = let z : _≡_ {A = Bool} true false = ap (λ (c : Card). eqb (c .number) 0) p ∙ not-done y in let y : _≡_ {A = ℕ} 0 1 = cc in absurd (omega arith)
+        go o k (stop y) p l = absurd (done-not-refused y p)
         go (shut y) k (good l) p o = let z : _≡_ {A = ℕ} 6 1 = ap (λ (c : Card). length (c .values)) p in absurd (omega arith)
         go (opened st′ rest) k (good l) p o =
             record {

@@ -33,7 +33,7 @@ fn refused_unread(trace: &[u8]) -> Refusal
             return refusal;
         }
         Start::At(settings, at) => {
-            let found = scan(trace, settings.catalogue.0, at);
+            let found = scan(trace, settings.catalogue, at);
             match found {
                 Answer::Refused(refusal) => {
                     return refusal;

@@ -3,14 +3,11 @@ use mathlib.Core.Path.{_≡_, refl, sym, ap, _∙_, subst}
 use mathlib.Core.Bool.{Bool, true, false}
 use mathlib.Core.List.{List}
 use Prim.Native.Nat.{ℕ}
-use lib.Dec.{eqb}
 use lib.ListN.{getD, replicate}
 use Rattle.amounts.specs.Limits.{pick, noPlace}
 use Rattle.amounts.specs.Settings.{inRange}
 use Rattle.amounts.specs.declared.settings.Settings.{Settings}
-use Rattle.card.specs.Card.{Card}
-use Rattle.card.specs.declared.Refusal.{Refusal}
-use Rattle.card.specs.declared.Refusal.the-variants.{Setting, Short, Form, Range, TooMany, Room, Unsound, OtherUnit, TooLong}
+use Rattle.card.proofs.Cases.{answerOn, bad-on}
 use Rattle.tables.specs.Tables.{Tables, tables, needed, beyond, cleared}
 use Rattle.tables.specs.Tally.{freshTally}
 use Rattle.tables.specs.Start.{startCard, long, startAnswer, startTables, Freshly}
@@ -49,32 +46,16 @@ tallyOf v =
       «hit_cost» = record { 0 = getD v 16 0 };
     }
 
-refusalOf : ℕ → ℕ → Refusal
-refusalOf n v =
-    pick (eqb n 1) Setting
-    (pick (eqb n 2) Short
-    (pick (eqb n 3) (Form v)
-    (pick (eqb n 4) (Range v)
-    (pick (eqb n 5) TooMany (pick (eqb n 6) Room (pick (eqb n 7) Unsound (pick (eqb n 8) OtherUnit TooLong)))))))
+abbrev startedWith : List ℕ → Started
+startedWith v = Done (tallyOf v)
 
-startedOf : Card → Started
-startedOf c = pick (eqb (c .number) 0) (Done (tallyOf (c .values))) (Refused (refusalOf (c .number) (getD (c .values) 0 0)))
-
-read-back : (r : Started) → startedOf (startCard r) ≡ r
-unfolding startedOf tallyOf refusalOf
+read-back : (r : Started) → answerOn startedWith Refused (startCard r) ≡ r
+unfolding tallyOf
 read-back (Done a) = refl
-read-back (Refused Setting) = refl
-read-back (Refused Short) = refl
-read-back (Refused (Form v)) = refl
-read-back (Refused (Range v)) = refl
-read-back (Refused TooMany) = refl
-read-back (Refused Room) = refl
-read-back (Refused Unsound) = refl
-read-back (Refused OtherUnit) = refl
-read-back (Refused TooLong) = refl
+read-back (Refused x) = bad-on startedWith Refused x
 
 pub one-card : (r r′ : Started) → startCard r ≡ startCard r′ → r ≡ r′
-one-card r r′ e = sym (read-back r) ∙ ap startedOf e ∙ read-back r′
+one-card r r′ e = sym (read-back r) ∙ ap (answerOn startedWith Refused) e ∙ read-back r′
 
 -- ---- one answer
 

@@ -1,10 +1,11 @@
--- The bound on the number of requests never counts: reading requests to the end, without it. Assumes nothing.
+-- What is left after a number are the last of the bytes, so the bound on the number of requests never counts: reading requests to the end, without it. Assumes nothing.
 use Prim.Native.Nat.{ℕ, zero, suc, _%_, _≤_, _<_}
-use mathlib.Core.Path.{_≡_, refl, ap}
-use mathlib.Core.List.{List, [], _∷_}
+use mathlib.Core.Path.{_≡_, refl, ap, sym, subst, _∙_}
+use mathlib.Core.List.{List, [], _∷_, _++_, append-assoc}
 use mathlib.Core.Bool.{Bool, true, false}
 use native.Mathlib.Omega.{arith}
-use lib.ListN.{length}
+use lib.ListN.{length, drop, length-append}
+use lib.Seq.{drop-append-seam}
 use lib.Dec.{ltb, eqb}
 use Rattle.amounts.specs.Limits.{pick, isSize, isCost}
 use Rattle.card.specs.declared.Refusal.{Refusal}
@@ -13,40 +14,69 @@ use Rattle.trace.specs.Number.{Num, num, bad, before, closing, groups, d
 use Rattle.trace.specs.Fields.{Field, val, off, offset, judged, field, onVal, isFile}
 use Rattle.trace.specs.Reading.{good, stop, push, requests, readOf}
 
--- what is left after a number is shorter
-Shorter : Num → ℕ → Type 0
-Shorter x n = (v : ℕ) (rest : List ℕ) → x ≡ num v rest → length rest < n
+-- what is left after a number is the end of the bytes
+pub record After (s rest : List ℕ) : Type 0 where
+  pub front : List ℕ
+  pub same : s ≡ front ++ rest
+  pub some : 0 < length front
 
-closing-shorter : (first : Bool) (b : ℕ) (s : List ℕ) → Shorter (closing first b s) (suc (length s))
-unfolding Shorter
-closing-shorter true b s v rest e = let r : s ≡ rest = cc in omega (arith, ap length r)
-closing-shorter false b s v rest e = go (eqb b 0) e
+after-shorter : {s rest : List ℕ} → After s rest → length rest < length s
+after-shorter {rest = rest} p = omega (arith, p .some, ap length (p .same), length-append (p .front) rest)
+
+pub after-then : {s t u : List ℕ} → After s t → After t u → After s u
+after-then {u = u} p q =
+    record {
+      front = p .front ++ q .front;
+      same = p .same ∙ ap (λ (l : List ℕ). p .front ++ l) (q .same) ∙ sym (append-assoc (p .front) (q .front) u);
+      some = omega (arith, p .some, length-append (p .front) (q .front));
+    }
+
+-- they begin as far from the front as they are shorter
+pub after-drop : {s rest : List ℕ} → After s rest → drop (offset (length s) rest) s ≡ rest
+after-drop {s} {rest} p =
+    let n : offset (length s) rest ≡ length (p .front) = omega (arith, ap length (p .same), length-append (p .front) rest) in
+    ap (λ (k : ℕ). drop k s) n ∙ ap (drop (length (p .front))) (p .same) ∙ drop-append-seam (p .front) rest
+
+-- the bytes after the number x, at the front of s
+Ends : List ℕ → Num → Type 0
+Ends s x = (v : ℕ) (rest : List ℕ) → x ≡ num v rest → After s rest
+
+one-after : (b : ℕ) {s rest : List ℕ} → s ≡ rest → After (b ∷ s) rest
+one-after b e = record { front = b ∷ []; same = ap (λ (t : List ℕ). b ∷ t) e; some = omega arith }
+
+closing-ends : (first : Bool) (b : ℕ) (s : List ℕ) → Ends (b ∷ s) (closing first b s)
+unfolding Ends
+closing-ends true b s v rest e = one-after b (cc)
+closing-ends false b s v rest e = go (eqb b 0) e
   where
-    go : (t : Bool) → pick t bad (num (b % 128) s) ≡ num v rest → length rest < suc (length s)
+    go : (t : Bool) → pick t bad (num (b % 128) s) ≡ num v rest → After (b ∷ s) rest
     go true e = let z : _≡_ {A = ℕ} 0 1 = cc in absurd (omega arith)
-    go false e = let r : s ≡ rest = cc in omega (arith, ap length r)
+    go false e = one-after b (cc)
 
-before-shorter : (b n : ℕ) (x : Num) → Shorter x n → Shorter (before b x) (suc n)
-unfolding Shorter
-before-shorter b n (num w t) h v rest e = let r : t ≡ rest = cc in omega (arith, ap length r, h w t refl)
-before-shorter b n bad h v rest e = let z : _≡_ {A = ℕ} 0 1 = cc in absurd (omega arith)
+before-ends : (b : ℕ) (s : List ℕ) (x : Num) → Ends s x → Ends (b ∷ s) (before b x)
+unfolding Ends
+before-ends b s (num w t) h v rest e = let r : t ≡ rest = cc in subst (After (b ∷ s)) r (after-then (one-after b refl) (h w t refl))
+before-ends b s bad h v rest e = let z : _≡_ {A = ℕ} 0 1 = cc in absurd (omega arith)
 
-groups-shorter : (k : ℕ) (first : Bool) (s : List ℕ) → Shorter (groups k first s) (length s)
-unfolding Shorter
-groups-shorter zero first s v rest e = let z : _≡_ {A = ℕ} 0 1 = cc in absurd (omega arith)
-groups-shorter (suc k) first [] v rest e = let z : _≡_ {A = ℕ} 0 1 = cc in absurd (omega arith)
-groups-shorter (suc k) first (b ∷ s) v rest e = go (ltb b 128) e (groups-shorter k false s)
+groups-ends : (k : ℕ) (first : Bool) (s : List ℕ) → Ends s (groups k first s)
+unfolding Ends
+groups-ends zero first s v rest e = let z : _≡_ {A = ℕ} 0 1 = cc in absurd (omega arith)
+groups-ends (suc k) first [] v rest e = let z : _≡_ {A = ℕ} 0 1 = cc in absurd (omega arith)
+groups-ends (suc k) first (b ∷ s) v rest e = go (ltb b 128) e (groups-ends k false s)
   where
-    go : (t : Bool) → pick t (closing first b s) (before b (groups k false s)) ≡ num v rest → Shorter (groups k false s) (length s) → length rest < suc (length s)
-    go true e ih = closing-shorter first b s v rest e
-    go false e ih = before-shorter b (length s) (groups k false s) ih v rest e
+    go : (t : Bool) → pick t (closing first b s) (before b (groups k false s)) ≡ num v rest → Ends s (groups k false s) → After (b ∷ s) rest
+    go true e ih = closing-ends first b s v rest e
+    go false e ih = before-ends b s (groups k false s) ih v rest e
+
+pub decode-after : {s : List ℕ} {v : ℕ} {rest : List ℕ} → decode s ≡ num v rest → After s rest
+unfolding Ends
+decode-after {s} {v} {rest} e = groups-ends 6 true s v rest e
 
 field-shorter : (n : ℕ) (inside : ℕ → Bool) (out : ℕ → Refusal) (s : List ℕ) (v : ℕ) (rest : List ℕ) → field n inside out s ≡ val v rest → length rest < length s
-unfolding Shorter
 field-shorter n inside out s v rest e = go (decode s) refl e
   where
     ranged : (w : ℕ) (t : List ℕ) (r : Bool) → decode s ≡ num w t → pick r (val w t) (off (out (offset n s))) ≡ val v rest → length rest < length s
-    ranged w t true d e = let r : t ≡ rest = cc in omega (arith, ap length r, groups-shorter 6 true s w t d)
+    ranged w t true d e = let r : t ≡ rest = cc in after-shorter (subst (After s) r (decode-after d))
     ranged w t false d e = let z : _≡_ {A = ℕ} 0 1 = cc in absurd (omega arith)
 
     go : (x : Num) → decode s ≡ x → judged n inside out s x ≡ val v rest → length rest < length s

@@ -7,7 +7,6 @@ use native.Mathlib.Omega.{arith}
 use borrow.Author.Tests.{lt-ltb, ltb-true, le-ltb, le-leb}
 use lib.ListN.{length, take, drop, getD, length-map}
 use lib.Seq.{take-at}
-use lib.Dec.{eqb}
 use Rattle.amounts.specs.Limits.{pick, isCatalogue, isSize, isCost}
 use Rattle.amounts.specs.Settings.{inRange}
 use Rattle.amounts.specs.Requests.{Request, Ranged, AllRanged}
@@ -22,7 +21,7 @@ use Rattle.trace.specs.Writing.{partBytes, settingsBytes, fileBytes, req
 use Rattle.trace.specs.Promise.{filesOf, sizesOf, costsOf, Wrote, WrotePart, WroteFile}
 use Rattle.trace.specs.declared.answer.Answer.the-variants.{Done}
 use Rattle.trace.proofs.Judging.{passed}
-use Rattle.trace.proofs.OneAnswer.{not-done}
+use Rattle.card.proofs.Cases.{done-not-refused}
 use Rattle.trace.proofs.RoundTrip.{part-back, part-again, part-ranged, file-back, file-again, file-ranged}
 
 -- the writer's test of a request is its range
@@ -59,7 +58,7 @@ wrote-done : (p : Put) (o : List ℕ) (n : ℕ) (o′ : List ℕ) → Wrote p o 
 wrote-done (bytes bs) o n o′ w =
     let e : length bs ≡ n = ap (λ (c : Card). getD (c .values) 0 0) (sym (w .answer)) in
     ap bytes (sym (take-at bs (drop (length bs) o) n e) ∙ ap (take n) (sym (w .buffer)))
-wrote-done (stop r) o n o′ w = let z : _≡_ {A = Bool} true false = ap (λ (c : Card). eqb (c .number) 0) (w .answer) ∙ not-done r in let y : _≡_ {A = ℕ} 0 1 = cc in absurd (omega arith)
+wrote-done (stop r) o n o′ w = absurd (done-not-refused r (w .answer))
 
 -- what `write_part` leaves at the front of its buffer reads back as the requests of the lists
 pub part-exchanged : (c : ℕ) (f s d o : List ℕ) (n : ℕ) (o′ : List ℕ) → WrotePart c f s d o (Done n) o′ → (m : ℕ) → readOf m c (take n o′) ≡ good (requestsIn f s d)

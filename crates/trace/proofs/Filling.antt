@@ -63,7 +63,7 @@ module _ (part : List ℕ) (c from count : ℕ) (f₀ s₀ d₀ : List ℕ) (rea
     where
       go : (l : List Request) → readOf (length part) c (drop at part) ≡ good l → i + length l ≡ length (allOf part c from) → Requested part at
       go [] e n = absurd (omega (arith, all-many))
-      go (q ∷ l) e n = record { n = length part; catalogue = c; q = q; after = l; reads = e }
+      go (q ∷ l) e n = record { n = length part; catalogue = c; catalogue-in = ready .catalogue-in; q = q; after = l; reads = e }
 
   pub filling-end : (f s d : List ℕ) (at i : ℕ) → Filling part c (allOf part c from) f₀ s₀ d₀ f s d at i → count ≤ i → Over (allOf part c from) f₀ s₀ d₀ f s d
   filling-end f s d at i w h = go (w .rest) (w .number) (w .in-files) (w .in-sizes) (w .in-costs)

@@ -176,4 +176,4 @@ module _ (part : List ℕ) (at : ℕ) (there : Numbered part at) (i : ℕ) (g : 
 
   pub pending-last : getD part i 0 < 128 → NumberAt part at (record { value = with-group g (getD part i 0); next = i + 1 })
   pending-last h =
-      ⊎-elim (λ e. absurd (not-bad (turned Bad e))) (λ e. record { spelt = p .same ∙ turned _ e }) (taken-last g (getD part i 0) h)
+      ⊎-elim (λ e. absurd (not-bad (turned Bad e))) (λ e. record { spelt = p .same ∙ turned _ e; inside = omega (arith, pending-inside) }) (taken-last g (getD part i 0) h)

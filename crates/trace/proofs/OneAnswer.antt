@@ -1,89 +1,70 @@
 -- Each promise admits one answer and one content of the lent lists (document 01, "How much each promise says"). Assumes nothing.
-use Prim.Native.Nat.{ℕ}
+use Prim.Native.Nat.{ℕ, _+_}
 use mathlib.Core.Path.{_≡_, refl, ap, sym, _∙_}
 use mathlib.Core.List.{List}
-use mathlib.Core.Bool.{false}
-use lib.ListN.{getD}
-use lib.Dec.{eqb}
-use Rattle.amounts.specs.Limits.{pick}
+use native.Mathlib.Omega.{arith}
+use lib.ListN.{length, drop, getD, length-drop}
+use lib.Seq.{getD-drop}
 use Rattle.amounts.specs.Requests.{Request}
 use Rattle.amounts.specs.declared.settings.Settings.{Settings}
-use Rattle.card.specs.Card.{Card, cardOf}
-use Rattle.card.specs.declared.Refusal.{Refusal}
-use Rattle.card.specs.declared.Refusal.the-variants.{Setting, Short, Form, Range, TooMany, Room, Unsound, OtherUnit, TooLong}
+use Rattle.card.specs.Card.{Card}
+use Rattle.card.proofs.Cases.{answerOn, bad-on}
+use Rattle.trace.specs.Number.{AreBytes}
 use Rattle.trace.specs.Writing.{Put}
-use Rattle.trace.specs.Cards.{answerCard, fileCard}
+use Rattle.trace.specs.Cards.{answerCard, fileCard, openingCard, openingAnswer}
 use Rattle.trace.specs.Promise.{Over, ReadPart, ReadFile, Wrote, WrotePart, WroteFile}
+use Rattle.trace.specs.Steps.{Requested, RequestAt}
 use Rattle.trace.specs.declared.answer.Answer.{Answer}
 use Rattle.trace.specs.declared.answer.Answer.the-variants.{Done, Refused}
 use Rattle.trace.specs.declared.answer.FileRead as file
+use Rattle.trace.specs.declared.answer.Start as start
+use Rattle.trace.specs.declared.reader.Taken.{Taken}
+use Rattle.trace.proofs.Answers.{settingsIn}
+use Rattle.trace.proofs.RoundTrip.{part-one}
 
--- a card's refusal and answer, read off its number and values
+-- no two answers have the same card: each is read back from its own
 
-abbrev refusalOn : Card → Refusal
-refusalOn c =
-    pick (eqb (c .number) 1) Setting
-    (pick (eqb (c .number) 2) Short
-    (pick (eqb (c .number) 3) (Form (getD (c .values) 0 0))
-    (pick (eqb (c .number) 4) (Range (getD (c .values) 0 0))
-    (pick (eqb (c .number) 5) TooMany
-    (pick (eqb (c .number) 6) Room
-    (pick (eqb (c .number) 7) Unsound
-    (pick (eqb (c .number) 8) OtherUnit TooLong)))))))
+abbrev doneWith : List ℕ → Answer
+doneWith v = Done (getD v 0 0)
 
-refusal-on : (r : Refusal) → refusalOn (cardOf r) ≡ r
-refusal-on Setting = refl
-refusal-on Short = refl
-refusal-on (Form o) = refl
-refusal-on (Range o) = refl
-refusal-on TooMany = refl
-refusal-on Room = refl
-refusal-on Unsound = refl
-refusal-on OtherUnit = refl
-refusal-on TooLong = refl
+answer-back : (a : Answer) → answerOn doneWith Refused (answerCard a) ≡ a
+answer-back (Done n) = refl
+answer-back (Refused r) = bad-on doneWith Refused r
 
-pub not-done : (r : Refusal) → eqb (cardOf r .number) 0 ≡ false
-not-done Setting = refl
-not-done Short = refl
-not-done (Form o) = refl
-not-done (Range o) = refl
-not-done TooMany = refl
-not-done Room = refl
-not-done Unsound = refl
-not-done OtherUnit = refl
-not-done TooLong = refl
-
-abbrev answerOn : Card → Answer
-answerOn c = pick (eqb (c .number) 0) (Done (getD (c .values) 0 0)) (Refused (refusalOn c))
-
-answer-on : (a : Answer) → answerOn (answerCard a) ≡ a
-answer-on (Done n) = refl
-answer-on (Refused r) = rw (not-done r) (ap Refused (refusal-on r))
-
-abbrev fileOn : Card → file.FileRead
-fileOn c =
-    pick (eqb (c .number) 0)
-    (file.the-variants.Done
-    (record {
-      unit = record { 0 = getD (c .values) 0 0 };
-      policy = record { 0 = getD (c .values) 1 0 };
-      capacity = record { 0 = getD (c .values) 2 0 };
-      places = record { 0 = getD (c .values) 3 0 };
-      catalogue = record { 0 = getD (c .values) 4 0 };
-    })
-    (getD (c .values) 5 0))
-    (file.the-variants.Refused (refusalOn c))
-
-file-on : (a : file.FileRead) → fileOn (fileCard a) ≡ a
-file-on (file.the-variants.Done s n) = refl
-file-on (file.the-variants.Refused r) = rw (not-done r) (ap file.the-variants.Refused (refusal-on r))
-
--- no two answers have the same card
 pub answer-one : (a a′ : Answer) → answerCard a ≡ answerCard a′ → a ≡ a′
-answer-one a a′ e = sym (answer-on a) ∙ ap answerOn e ∙ answer-on a′
+answer-one a a′ e = sym (answer-back a) ∙ ap (answerOn doneWith Refused) e ∙ answer-back a′
+
+abbrev readWith : List ℕ → file.FileRead
+readWith v = file.the-variants.Done (settingsIn v) (getD v 5 0)
+
+file-back : (a : file.FileRead) → answerOn readWith file.the-variants.Refused (fileCard a) ≡ a
+file-back (file.the-variants.Done s n) = refl
+file-back (file.the-variants.Refused r) = bad-on readWith file.the-variants.Refused r
 
 pub file-answer-one : (a a′ : file.FileRead) → fileCard a ≡ fileCard a′ → a ≡ a′
-file-answer-one a a′ e = sym (file-on a) ∙ ap fileOn e ∙ file-on a′
+file-answer-one a a′ e = sym (file-back a) ∙ ap (answerOn readWith file.the-variants.Refused) e ∙ file-back a′
+
+abbrev openedWith : List ℕ → start.Start
+openedWith v = start.the-variants.At (settingsIn v) (getD v 5 0)
+
+start-back : (a : start.Start) → answerOn openedWith start.the-variants.Refused (openingCard a) ≡ a
+start-back (start.the-variants.At s at) = refl
+start-back (start.the-variants.Refused r) = bad-on openedWith start.the-variants.Refused r
+
+-- `settings_at`
+pub settings-at-one : (trace : List ℕ) (r r′ : start.Start) → openingCard r ≡ openingAnswer trace → openingCard r′ ≡ openingAnswer trace → r ≡ r′
+settings-at-one trace r r′ p q = sym (start-back r) ∙ ap (answerOn openedWith start.the-variants.Refused) (p ∙ sym q) ∙ start-back r′
+
+-- `request_at`
+pub request-at-one : (part : List ℕ) (at : ℕ) → AreBytes part → Requested part at → (r r′ : Taken) → RequestAt part at r → RequestAt part at r′ → r ≡ r′
+unfolding AreBytes
+request-at-one part at bytes there r r′ p q =
+    let f = p .first _ _ _ _ (there .catalogue-in) (there .reads) in
+    let g = q .first _ _ _ _ (there .catalogue-in) (there .reads) in
+    let after : (k : ℕ) → AreBytes (drop k part) = (λ k i. rw (getD-drop k part i 0) (bytes (k + i))) in
+    let same : drop (r .next) part ≡ drop (r′ .next) part = part-one _ _ _ _ _ _ (after (r .next)) (after (r′ .next)) (f .rest) (g .rest) in
+    let next : r .next ≡ r′ .next = omega (arith, f .inside, g .inside, ap length same, length-drop (r .next) part, length-drop (r′ .next) part) in
+    λ i. record { file = (f .file ∙ sym (g .file)) i; size = (f .size ∙ sym (g .size)) i; cost = (f .cost ∙ sym (g .cost)) i; next = next i }
 
 over-one : (l : List Request) (f s d f₁ s₁ d₁ f₂ s₂ d₂ : List ℕ) → Over l f s d f₁ s₁ d₁ → Over l f s d f₂ s₂ d₂ → (f₁ ≡ f₂) × (s₁ ≡ s₂) × (d₁ ≡ d₂)
 over-one l f s d f₁ s₁ d₁ f₂ s₂ d₂ p q = (p .in-files ∙ sym (q .in-files), p .in-sizes ∙ sym (q .in-sizes), p .in-costs ∙ sym (q .in-costs))

@@ -18,7 +18,7 @@ use Rattle.trace.specs.Fields.{val, off, offset, judged, field, onVal, i
 use Rattle.trace.specs.Reading.{Read, good, stop, push, readOf, Opened, opened, shut, setting, settingsOf}
 use Rattle.trace.specs.Steps.{Numbered, NumberAt, Requested, First, RequestAt}
 use Rattle.trace.specs.declared.number.Number.{Number}
-use Rattle.trace.proofs.Enough.{read-nil, read-cons}
+use Rattle.trace.proofs.Enough.{read-nil, read-cons, After, after-then, decode-after}
 
 -- a field after which the read went on to r
 record Got {A : Type 0} (inside : ℕ → Bool) (s : List ℕ) (k : ℕ → List ℕ → A) (r : A) : Type 0 where
@@ -130,6 +130,7 @@ three part at a z d ha hz hd = record {
         file = rw (← eq, one-value (p .file) (ha .spelt)) (omega (arith, ltb-true (p .q .file) c (p .file-in), one-to catalogueMost c hc));
         size = rw (← eq, one-value size-at (hz .spelt)) (omega (arith, one-to sizeMost (p .q .size) (p .size-in)));
         cost = rw (← eq, one-value cost-at (hd .spelt)) (omega (arith, leb-true (p .q .cost) costMost (p .cost-in)));
+        inside = hd .inside;
         rest = rw (← el, one-rest cost-at (hd .spelt)) (p .rest);
       };
 }
@@ -147,6 +148,10 @@ pub record Five (s : List ℕ) (st : Settings) (rest : List ℕ) : Type 0 where
   pub catalogue : decode s₄ ≡ num (st .catalogue .0) rest
   pub in-range : inRange st ≡ true
   pub catalogue-in : isCatalogue (st .catalogue .0) ≡ true
+
+-- the bytes after the settings are the last of them
+pub five-after : {s : List ℕ} {st : Settings} {rest : List ℕ} → Five s st rest → After s rest
+five-after p = after-then (decode-after (p .unit)) (after-then (decode-after (p .policy)) (after-then (decode-after (p .capacity)) (after-then (decode-after (p .places)) (decode-after (p .catalogue)))))
 
 opened-not-shut : (st : Settings) (rest : List ℕ) (x : Refusal) → shut x ≡ opened st rest → ⊥
 opened-not-shut st rest x e = let z : _≡_ {A = ℕ} 0 1 = cc in omega arith

@@ -9,11 +9,10 @@ use Rattle.amounts.specs.Limits.{pick, isCatalogue}
 use Rattle.amounts.specs.Requests.{Request}
 use Rattle.amounts.specs.declared.settings.Settings.{Settings}
 use Rattle.trace.specs.Number.{num, decode}
-use Rattle.trace.specs.Reading.{Read, good, stop, readOf, roomy, rows, opened, shut, settingsOf}
+use Rattle.trace.specs.Reading.{Read, good, stop, readOf, roomy, rows}
 use Rattle.trace.specs.Promise.{Over, room}
 use Rattle.trace.specs.declared.answer.Answer.{Answer}
 use Rattle.trace.specs.declared.answer.Answer.the-variants.{Done, Refused}
-use Rattle.trace.specs.declared.answer.Start as start
 use Rattle.trace.specs.declared.number.Number.{Number}
 use Rattle.trace.specs.declared.number.Group.{Group}
 use Rattle.trace.specs.declared.number.Next.{Next}
@@ -46,18 +45,21 @@ pub record Numbered (part : List ℕ) (at : ℕ) : Type 0 where
 -- r is the number at a place of the bytes, with the place after it
 pub record NumberAt (part : List ℕ) (at : ℕ) (r : Number) : Type 0 where
   pub spelt : decode (drop at part) ≡ num (r .value) (drop (r .next) part)
+  pub inside : r .next ≤ length part
 
 -- r is the request q, and l are the requests after it
 pub record First (part : List ℕ) (n catalogue : ℕ) (r : Taken) (q : Request) (l : List Request) : Type 0 where
   pub file : r .file ≡ q .file
   pub size : r .size ≡ q .size
   pub cost : r .cost ≡ q .cost
+  pub inside : r .next ≤ length part
   pub rest : readOf n catalogue (drop (r .next) part) ≡ good l
 
--- there is a request at a place of the bytes
+-- there is a request at a place of the bytes, under some catalogue in range
 pub record Requested (part : List ℕ) (at : ℕ) : Type 0 where
   pub n : ℕ
   pub catalogue : ℕ
+  pub catalogue-in : isCatalogue catalogue ≡ true
   pub q : Request
   pub after : List Request
   pub reads : readOf n catalogue (drop at part) ≡ good (q ∷ after)
@@ -97,8 +99,3 @@ withSetting s f n =
     (pick (eqb f 2) (record { unit = s .unit; policy = s .policy; capacity = record { 0 = n }; places = s .places; catalogue = s .catalogue })
     (pick (eqb f 3) (record { unit = s .unit; policy = s .policy; capacity = s .capacity; places = record { 0 = n }; catalogue = s .catalogue })
     (record { unit = s .unit; policy = s .policy; capacity = s .capacity; places = s .places; catalogue = record { 0 = n } }))))
-
--- r is the settings at the front of a file with the place after them, or the refusal
-abbrev pub StartAt : List ℕ → start.Start → Type 0
-StartAt trace (start.the-variants.At s at) = (at ≤ length trace) × (settingsOf (length trace) trace ≡ opened s (drop at trace))
-StartAt trace (start.the-variants.Refused r) = settingsOf (length trace) trace ≡ shut r

@@ -15,7 +15,8 @@ use amounts::Unit;
 use card::Refusal;
 ghost use mathlib.Core.Path.{_≡_};
 ghost use Rattle.trace.specs.Fields.{inSettings};
-ghost use Rattle.trace.specs.Steps.{unsetSettings, withSetting, StartAt};
+ghost use Rattle.trace.specs.Cards.{openingCard, openingAnswer};
+ghost use Rattle.trace.specs.Steps.{unsetSettings, withSetting};
 ghost use Rattle.trace.specs.Promise.{ReadFile};
 
 // Whether the value of a setting is in its range.
@@ -82,7 +83,7 @@ fn with_setting(s: Settings, field: u64, value: u64) -> Settings
 
 // The settings at the front of a file, field by field. Left from the innermost loop at the first bad group.
 pub fn settings_at(trace: &[u8]) -> Start
-    ensures { λ r. ⌜ StartAt (now (trace .entry)) r ⌝ }
+    ensures { λ r. ⌜ openingCard r ≡ openingAnswer (now (trace .entry)) ⌝ }
 {
     let mut answer = Start::Refused(Refusal::Setting);
     let mut settings = unset();
@@ -140,7 +141,7 @@ pub fn read_file(trace: &[u8], files: &mut [u16], sizes: &mut [u32], costs: &mut
             return FileRead::Refused(refusal);
         }
         Start::At(settings, at) => {
-            let read = read_from(trace, settings.catalogue.0, at, files, sizes, costs);
+            let read = read_from(trace, settings.catalogue, at, files, sizes, costs);
             match read {
                 Answer::Refused(refusal) => {
                     return FileRead::Refused(refusal);

@@ -19,11 +19,11 @@ ghost use Rattle.trace.specs.Steps.{Requested, RequestAt, counted, Ready
 ghost use Rattle.trace.specs.Promise.{Over, ReadPart};
 
 // Whether the value of a request's field is in its range.
-pub fn in_request(catalogue: u64, field: u64, value: u64) -> bool
-    ensures { λ r. ⌜ r ≡ inRequest catalogue field value ⌝ }
+pub fn in_request(catalogue: Catalogue, field: u64, value: u64) -> bool
+    ensures { λ r. ⌜ r ≡ inRequest (catalogue .0) field value ⌝ }
 {
     if field == 0 {
-        return value < catalogue;
+        return value < catalogue.0;
     }
     if field == 1 {
         return Bytes::is_size(value);
@@ -32,9 +32,9 @@ pub fn in_request(catalogue: u64, field: u64, value: u64) -> bool
 }
 
 // The checking pass: how many requests there are from a place on, or the refusal. Left from the innermost loop at the first bad group.
-pub fn scan(part: &[u8], catalogue: u64, from: usize) -> Answer
+pub fn scan(part: &[u8], catalogue: Catalogue, from: usize) -> Answer
     requires { ⌜ from ≤ length (now part) ⌝ }
-    ensures { λ r. ⌜ r ≡ counted 0 (readOf (length (now (part .entry))) catalogue (drop from (now (part .entry)))) ⌝ }
+    ensures { λ r. ⌜ r ≡ counted 0 (readOf (length (now (part .entry))) (catalogue .0) (drop from (now (part .entry)))) ⌝ }
 {
     let mut answer = Answer::Refused(Refusal::Setting);
     let mut count: usize = 0;
@@ -138,15 +138,15 @@ pub(crate) fn fill(
 // The requests from a place on, into the fronts of three lists.
 pub(crate) fn read_from(
     part: &[u8],
-    catalogue: u64,
+    catalogue: Catalogue,
     from: usize,
     files: &mut [u16],
     sizes: &mut [u32],
     costs: &mut [u16],
 ) -> Answer
     requires { ⌜ from ≤ length (now part) ⌝ }
-    requires { ⌜ isCatalogue catalogue ≡ true ⌝ }
-    ensures { λ r. ⌜ ReadFrom (readOf (length (now (part .entry))) catalogue (drop from (now (part .entry)))) (now (files .entry)) (now (sizes .entry)) (now (costs .entry)) r (now (files .exit)) (now (sizes .exit)) (now (costs .exit)) ⌝ }
+    requires { ⌜ isCatalogue (catalogue .0) ≡ true ⌝ }
+    ensures { λ r. ⌜ ReadFrom (readOf (length (now (part .entry))) (catalogue .0) (drop from (now (part .entry)))) (now (files .entry)) (now (sizes .entry)) (now (costs .entry)) r (now (files .exit)) (now (sizes .exit)) (now (costs .exit)) ⌝ }
 {
     let checked = scan(part, catalogue, from);
     match checked {
@@ -163,7 +163,7 @@ pub(crate) fn read_from(
             if costs.len() < count {
                 return Answer::Refused(Refusal::Room);
             }
-            fill(part, catalogue, from, count, files, sizes, costs);
+            fill(part, catalogue.0, from, count, files, sizes, costs);
             return Answer::Done(count);
         }
     }
@@ -182,5 +182,5 @@ pub fn read_part(
     if !Catalogue::is_catalogue(catalogue.0) {
         return Answer::Refused(Refusal::Setting);
     }
-    read_from(part, catalogue.0, 0, files, sizes, costs)
+    read_from(part, catalogue, 0, files, sizes, costs)
 }

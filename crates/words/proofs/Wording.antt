@@ -8,7 +8,7 @@ use lib.ListN.{length, getD, take, drop, take-append-drop}
 use lib.Seq.{sets, lt-length-sets, drop-cons}
 use Rattle.card.specs.Card.{Card, valueOf, cardOf}
 use Rattle.card.specs.declared.Refusal.{Refusal}
-use Rattle.card.specs.declared.Refusal.the-variants.{Setting, Short, Form, Range, TooMany, Room, Unsound, OtherUnit, TooLong}
+use Rattle.card.proofs.Cases.{on-card}
 use Rattle.trace.specs.Promise.{over}
 use Rattle.trace.proofs.Laying.{laid-over}
 use Rattle.tables.specs.Start.{words}
@@ -17,15 +17,7 @@ use Rattle.words.specs.Words.{wordOf, answerWord, tallyIn}
 
 -- every number of the card has room in a byte
 pub number-small : (x : Refusal) → cardOf x .number < 256
-number-small Setting = omega arith
-number-small Short = omega arith
-number-small (Form o) = omega arith
-number-small (Range o) = omega arith
-number-small TooMany = omega arith
-number-small Room = omega arith
-number-small Unsound = omega arith
-number-small OtherUnit = omega arith
-number-small TooLong = omega arith
+number-small x = omega (arith, on-card x .most)
 
 pub word-eq : {v v′ n n′ : ℕ} → v ≡ v′ → n ≡ n′ → wordOf v n ≡ wordOf v′ n′
 word-eq p q = λ i. wordOf (p i) (q i)

@@ -154,6 +154,16 @@ pub fn sheet(trace: &[u8], out: &mut [u8]) -> Agreement {
     Ok(given)
 }
 
+/// What a sheet says by its text: refused by a number, or done.
+pub fn said(sheet: &[u8]) -> Answer {
+    let text = std::str::from_utf8(sheet).unwrap_or("");
+    let number = text.strip_prefix("refused ").map(str::trim_end);
+    Answer {
+        value: 0,
+        number: number.map_or(0, |digits| digits.parse().expect("a number is refused by")),
+    }
+}
+
 /// Checks the number itself, where a case knows which one is due.
 pub fn due(given: Answer, due: Answer) -> Result<(), String> {
     same("the answer due", &given, &due)

@@ -247,5 +247,5 @@ pub fn sheet(random: &mut Random) -> Verdict {
             line.as_bytes(),
         )?;
     }
-    Ok(vec![given])
+    Ok(vec![given, agree::said(&out[..given.value as usize])])
 }

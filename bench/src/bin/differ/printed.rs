@@ -5,7 +5,6 @@ use std::path::{Path, PathBuf};
 use std::process::{Command, Stdio};
 use std::sync::OnceLock;
 
-use bench::model::red_card::Answer;
 use bench::model::sheet::sheet;
 use bench::random::Random;
 
@@ -24,7 +23,7 @@ pub fn all(random: &mut Random) -> Verdict {
     let printed =
         run(program, [first, second]).map_err(|error| format!("{}: {error}", program.display()))?;
     agree::same_list("printed sheet", &printed, sheet(&file).as_bytes())?;
-    Ok(vec![Answer::done(printed.len())])
+    Ok(vec![agree::said(&printed)])
 }
 
 /// What the program prints, given its input in pieces.

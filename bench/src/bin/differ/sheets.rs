@@ -28,7 +28,11 @@ pub fn valid(random: &mut Random) -> Verdict {
     let mut answers = Vec::new();
     for length in [needed - 1, needed, needed + 5] {
         let mut out = make::exact_list(random, length, |word| word as u8);
-        answers.push(agree::sheet(&file, &mut out)?);
+        let answer = agree::sheet(&file, &mut out)?;
+        answers.push(answer);
+        if answer.number == 0 {
+            answers.push(agree::said(&out[..answer.value as usize]));
+        }
     }
     Ok(answers)
 }

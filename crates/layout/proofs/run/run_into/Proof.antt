@@ -6,6 +6,19 @@ use Rattle.layout.proofs.Running.{own-long, ran-own}
 use Rattle.layout.proofs.run.run_into.Statement.{statement}
 use Rattle.layout.proofs.run.run_into.Tie as tie
 
+-- ways back, each over the eight tables
+abbrev fresh→start : tie.After-fresh → tie.Start
+fresh→start c = c .before .before .before .before .before .before .before .before .before .before .before
+
+abbrev new→fresh : tie.After-new → tie.After-fresh
+new→fresh c = c .before .before .before .before .before .before .before .before .before .before
+
+abbrev carried→new : tie.After-carry-on → tie.After-new
+carried→new c = c .before .before .before .before .before .before .before .before .before .before
+
+abbrev end→carried : tie.After-events → tie.After-carry-on
+end→carried c = c .before .before .before .before .before .before .before .before .before
+
 slice-aggregate-fresh : tie.Need-slice-aggregate-fresh
 slice-aggregate-fresh c = refl
 
@@ -67,7 +80,12 @@ same-length : tie.Need-same-length
 same-length c = search needs
 
 returns : tie.Need-returns
-returns c = let s = c .before .before .before .before .before .before .before .before .before .before .before .before .before .before .before .before .before .before .before .before .before .before .before .before .before .before .before .before .before .before .before .before .before .before .before .before .before .before .before .before .before in ran-own _ _ _ (s .pre) _ (own-long _ _ _ (s .pre) 512 4096 (omega arith) (omega arith)) _ _ (c .before .before .before .before .before .before .before .before .before .before .before .before .before .before .before .before .before .before .before .before .before .before .before .before .before .before .before .before .before .before .fresh .ensures) _ _ _ _ (c .before .before .before .before .before .before .before .before .before .before .before .before .before .before .before .before .before .before .before .before .new .ensures) (c .before .before .before .before .before .before .before .before .before .before .carry-on .ensures)
+returns c =
+    let carried = end→carried (c .before) in
+    let new = carried→new carried in
+    let fresh = new→fresh new in
+    let own = fresh→start fresh .pre in
+    ran-own _ _ _ own _ (own-long _ _ _ own 512 4096 (omega arith) (omega arith)) _ _ (fresh .fresh .ensures) _ _ _ _ (new .new .ensures) (carried .carry-on .ensures)
 
 pub run-into-spec : {M : Type 1} → statement M
 run-into-spec =

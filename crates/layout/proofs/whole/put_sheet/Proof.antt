@@ -7,6 +7,16 @@ use Rattle.layout.proofs.Ways.{too-long, start-refused, start-inside, s
 use Rattle.layout.proofs.whole.put_sheet.Statement.{statement}
 use Rattle.layout.proofs.whole.put_sheet.Tie as tie
 
+-- ways back
+abbrev settings→start : tie.After-settings-at → tie.Start
+settings→start c = c .before .before .before .before
+
+abbrev shut→settings : tie.After-start → tie.After-settings-at
+shut→settings c = c .before .before
+
+abbrev open→settings : tie.After-start2 → tie.After-settings-at
+open→settings c = c .before .before
+
 put-refused-requires : tie.Need-put-refused-requires
 put-refused-requires c κs = search needs
 
@@ -14,7 +24,10 @@ same-length : tie.Need-same-length
 same-length c = search needs
 
 returns : tie.Need-returns
-returns c = laid-as (too-long (c .before .before .before .before .before .before .before .args .trace .now) (c .before .before .before .before .if1 .taken)) (c .before .before .put-refused .ensures)
+returns c =
+    let refused = c .before .before in
+    let long = refused .before .before in
+    laid-as (too-long (long .before .before .before .args .trace .now) (long .if1 .taken)) (refused .put-refused .ensures)
 
 settings-at-requires : tie.Need-settings-at-requires
 settings-at-requires c κs = search needs
@@ -31,29 +44,46 @@ put-refused-requires-2 c κs = search needs
 enum-known-start-2 : tie.Need-enum-known-start-2
 enum-known-start-2 c = search needs
 
+-- the requests begin inside the bytes
 sub-put-file : tie.Need-sub-put-file
-sub-put-file c = let g = c .before .before .before in start-inside (g .before .before .before .before .args .trace .now) (g .before .if1 .left) _ (g .settings-at .ensures) _ _ (c .before .start2 .given .1)
+sub-put-file c =
+    let settings = open→settings (c .before) in
+    start-inside (settings→start settings .args .trace .now) (settings .before .if1 .left) _ (settings .settings-at .ensures) _ _ (c .before .start2 .given .1)
 
 part-put-file-start : tie.Need-part-put-file-start
-part-put-file-start c = let g = c .before .before .before in start-inside (g .before .before .before .before .args .trace .now) (g .before .if1 .left) _ (g .settings-at .ensures) _ _ (c .before .start2 .given .1)
+part-put-file-start c = sub-put-file c
 
 part-put-file-end : tie.Need-part-put-file-end
 part-put-file-end c = search needs
 
 put-file-requires : tie.Need-put-file-requires
-put-file-requires c κs = let g = c .before .before .before .before .before in (start-given (g .before .before .before .before .args .trace .now) (g .before .if1 .left) _ (g .settings-at .ensures) _ _ (c .before .before .before .start2 .given .1), c .before .before .before .before .before .before .before .before .before .pre)
+put-file-requires c κs =
+    let found = c .before .before .before in
+    let settings = open→settings found in
+    let start = settings→start settings in
+    (start-given (start .args .trace .now) (settings .before .if1 .left) _ (settings .settings-at .ensures) _ _ (found .start2 .given .1), start .pre)
 
 same-length-2 : tie.Need-same-length-2
 same-length-2 c = search needs
 
 returns-2 : tie.Need-returns-2
-returns-2 c = let n = c .before .before .before .before in let g = n .before .before .before .before in laid-as (start-refused (g .before .before .before .before .args .trace .now) (g .before .if1 .left) _ (g .settings-at .ensures) _ (n .before .before .start .given .1) ∙ ap refusedLine (sym (n .number .ensures))) (c .before .before .put-refused2 .ensures)
+returns-2 c =
+    let refused = c .before .before in
+    let number = refused .before .before in
+    let shut = number .before .before in
+    let settings = shut→settings shut in
+    let p = start-refused (settings→start settings .args .trace .now) (settings .before .if1 .left) _ (settings .settings-at .ensures) _ (shut .start .given .1) in
+    laid-as (p ∙ ap refusedLine (sym (number .number .ensures))) (refused .put-refused2 .ensures)
 
 same-length-3 : tie.Need-same-length-3
 same-length-3 c = search needs
 
 returns-3 : tie.Need-returns-3
-returns-3 c = let g = c .before .before .before .before .before .before .before .before in laid-as (start-same (g .before .before .before .before .args .trace .now) (g .before .if1 .left) _ (g .settings-at .ensures) _ _ (c .before .before .before .before .before .before .start2 .given .1)) (c .before .before .put-file .ensures)
+returns-3 c =
+    let put = c .before .before in
+    let found = put .before .before .before .before in
+    let settings = open→settings found in
+    laid-as (start-same (settings→start settings .args .trace .now) (settings .before .if1 .left) _ (settings .settings-at .ensures) _ _ (found .start2 .given .1)) (put .put-file .ensures)
 
 pub put-sheet-spec : {M : Type 1} → statement M
 put-sheet-spec =

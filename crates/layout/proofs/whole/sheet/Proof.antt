@@ -25,7 +25,10 @@ same-length : tie.Need-same-length
 same-length c = search needs
 
 returns-2 : tie.Need-returns-2
-returns-2 c = sheet-done _ _ _ _ (c .before .before .before .before .before .before .before .put-sheet .ensures) (own-ample sheetMost (omega arith)) _ (c .before .before .before .before .before .if1 .left) _ _ (c .before .before .put-bytes .ensures)
+returns-2 c =
+    let copied = c .before .before in
+    let fits = copied .before .before .before in
+    sheet-done _ _ _ _ (fits .before .before .put-sheet .ensures) (own-ample sheetMost (omega arith)) _ (fits .if1 .left) _ _ (copied .put-bytes .ensures)
 
 pub sheet-spec : {M : Type 1} → statement M
 sheet-spec =

@@ -4,29 +4,55 @@ use Rattle.lines.proofs.Items.{item-word, item-space, item-number, item
 use Rattle.lines.proofs.line.put_item.Statement.{statement}
 use Rattle.lines.proofs.line.put_item.Tie as tie
 
+-- ways back
+abbrev word→start : tie.After-put-bytes → tie.Start
+word→start c = c .before .before .before .before
+
+abbrev number→word : tie.After-put-decimal → tie.After-put-bytes
+number→word c = c .before .before .before .before
+
 put-bytes-requires : tie.Need-put-bytes-requires
 put-bytes-requires c κs = item-word _ _ _ _ _ (c .before .before .before .pre)
 
 slice-write-out : tie.Need-slice-write-out
-slice-write-out c = item-space _ _ _ _ _ (c .before .before .before .before .before .before .pre) _ _ (c .before .before .put-bytes .ensures)
+slice-write-out c = let word = c .before .before in item-space _ _ _ _ _ (word→start word .pre) _ _ (word .put-bytes .ensures)
 
 add-put-decimal : tie.Need-add-put-decimal
-add-put-decimal c = let s = c .before .before .before .before .before .before .before in let w = c .before .before .before in omega (arith, item-space (s .args .word .now) (s .args .n) (s .args .end) (s .args .at) (s .args .out .now) (s .pre) _ _ (w .put-bytes .ensures))
+add-put-decimal c =
+    let word = c .before .before .before in
+    let start = word→start word in
+    let x = start .args in
+    omega (arith, item-space (x .word .now) (x .n) (x .end) (x .at) (x .out .now) (start .pre) _ _ (word .put-bytes .ensures))
 
 put-decimal-requires : tie.Need-put-decimal-requires
-put-decimal-requires c κs = item-number _ _ _ _ _ (c .before .before .before .before .before .before .before .pre) _ _ (c .before .before .before .put-bytes .ensures)
+put-decimal-requires c κs = let word = c .before .before .before in item-number _ _ _ _ _ (word→start word .pre) _ _ (word .put-bytes .ensures)
 
 slice-write-out-2 : tie.Need-slice-write-out-2
-slice-write-out-2 c = item-end _ _ _ _ _ (c .before .before .before .before .before .before .before .before .before .before .pre) _ _ (c .before .before .before .before .before .before .put-bytes .ensures) _ _ (c .before .before .put-decimal .ensures)
+slice-write-out-2 c =
+    let number = c .before .before in
+    let word = number→word number in
+    item-end _ _ _ _ _ (word→start word .pre) _ _ (word .put-bytes .ensures) _ _ (number .put-decimal .ensures)
 
 add-result : tie.Need-add-result
-add-result c = let s = c .before .before .before .before .before .before .before .before .before .before in let w = c .before .before .before .before .before .before in let d = c .before .before in let f = s .fits in omega (arith, item-inside (s .args .word .now) (s .args .n) (s .args .end) (s .args .at) (s .args .out .now) (s .pre) _ _ (w .put-bytes .ensures) _ _ (d .put-decimal .ensures))
+add-result c =
+    let number = c .before .before in
+    let word = number→word number in
+    let start = word→start word in
+    let x = start .args in
+    let f = start .fits in
+    omega (arith, item-inside (x .word .now) (x .n) (x .end) (x .at) (x .out .now) (start .pre) _ _ (word .put-bytes .ensures) _ _ (number .put-decimal .ensures))
 
 same-length : tie.Need-same-length
-same-length c = item-long _ _ _ _ _ (c .before .before .before .before .before .before .before .before .before .before .pre) _ _ (c .before .before .before .before .before .before .put-bytes .ensures) _ _ (c .before .before .put-decimal .ensures)
+same-length c =
+    let number = c .before .before in
+    let word = number→word number in
+    item-long _ _ _ _ _ (word→start word .pre) _ _ (word .put-bytes .ensures) _ _ (number .put-decimal .ensures)
 
 returns : tie.Need-returns
-returns c = item-laid _ _ _ _ _ (c .before .before .before .before .before .before .before .before .before .before .pre) _ _ (c .before .before .before .before .before .before .put-bytes .ensures) _ _ (c .before .before .put-decimal .ensures)
+returns c =
+    let number = c .before .before in
+    let word = number→word number in
+    item-laid _ _ _ _ _ (word→start word .pre) _ _ (word .put-bytes .ensures) _ _ (number .put-decimal .ensures)
 
 pub put-item-spec : {M : Type 1} → statement M
 put-item-spec =

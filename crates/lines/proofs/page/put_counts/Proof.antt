@@ -15,31 +15,54 @@ slice-aggregate-put-item-2 : tie.Need-slice-aggregate-put-item-2
 slice-aggregate-put-item-2 c = refl
 
 put-item-requires-2 : tie.Need-put-item-requires-2
-put-item-requires-2 c κs = let x1 = c .before .before .before .before in roomy-front _ _ _ _ (roomy-next _ _ _ _ _ _ (x1 .put-item .ensures) (x1 .before .before .before .before .pre))
+put-item-requires-2 c κs =
+    let requests = c .before .before .before .before in
+    roomy-front _ _ _ _ (roomy-next _ _ _ _ _ _ (requests .put-item .ensures) (requests .before .before .before .before .pre))
 
 slice-aggregate-put-item-3 : tie.Need-slice-aggregate-put-item-3
 slice-aggregate-put-item-3 c = refl
 
 put-item-requires-3 : tie.Need-put-item-requires-3
-put-item-requires-3 c κs = let x2 = c .before .before .before .before in let x1 = x2 .before .before .before .before .before in roomy-front _ _ _ _ (roomy-next _ _ _ _ _ _ (x2 .put-item2 .ensures) (roomy-next _ _ _ _ _ _ (x1 .put-item .ensures) (x1 .before .before .before .before .pre)))
+put-item-requires-3 c κs =
+    let hits = c .before .before .before .before in
+    let requests = hits .before .before .before .before .before in
+    roomy-front _ _ _ _ (roomy-next _ _ _ _ _ _ (hits .put-item2 .ensures) (roomy-next _ _ _ _ _ _ (requests .put-item .ensures) (requests .before .before .before .before .pre)))
 
 slice-aggregate-put-item-4 : tie.Need-slice-aggregate-put-item-4
 slice-aggregate-put-item-4 c = refl
 
 put-item-requires-4 : tie.Need-put-item-requires-4
-put-item-requires-4 c κs = let x3 = c .before .before .before .before in let x2 = x3 .before .before .before .before .before in let x1 = x2 .before .before .before .before .before in roomy-front _ _ _ _ (roomy-next _ _ _ _ _ _ (x3 .put-item3 .ensures) (roomy-next _ _ _ _ _ _ (x2 .put-item2 .ensures) (roomy-next _ _ _ _ _ _ (x1 .put-item .ensures) (x1 .before .before .before .before .pre))))
+put-item-requires-4 c κs =
+    let admitted = c .before .before .before .before in
+    let hits = admitted .before .before .before .before .before in
+    let requests = hits .before .before .before .before .before in
+    roomy-front _ _ _ _ (roomy-next _ _ _ _ _ _ (admitted .put-item3 .ensures)
+    (roomy-next _ _ _ _ _ _ (hits .put-item2 .ensures) (roomy-next _ _ _ _ _ _ (requests .put-item .ensures) (requests .before .before .before .before .pre))))
 
 slice-aggregate-put-item-5 : tie.Need-slice-aggregate-put-item-5
 slice-aggregate-put-item-5 c = refl
 
 put-item-requires-5 : tie.Need-put-item-requires-5
-put-item-requires-5 c κs = let x4 = c .before .before .before .before in let x3 = x4 .before .before .before .before .before in let x2 = x3 .before .before .before .before .before in let x1 = x2 .before .before .before .before .before in roomy-next _ _ _ _ _ _ (x4 .put-item4 .ensures) (roomy-next _ _ _ _ _ _ (x3 .put-item3 .ensures) (roomy-next _ _ _ _ _ _ (x2 .put-item2 .ensures) (roomy-next _ _ _ _ _ _ (x1 .put-item .ensures) (x1 .before .before .before .before .pre))))
+put-item-requires-5 c κs =
+    let passed = c .before .before .before .before in
+    let admitted = passed .before .before .before .before .before in
+    let hits = admitted .before .before .before .before .before in
+    let requests = hits .before .before .before .before .before in
+    roomy-next _ _ _ _ _ _ (passed .put-item4 .ensures) (roomy-next _ _ _ _ _ _ (admitted .put-item3 .ensures)
+    (roomy-next _ _ _ _ _ _ (hits .put-item2 .ensures) (roomy-next _ _ _ _ _ _ (requests .put-item .ensures) (requests .before .before .before .before .pre))))
 
 same-length : tie.Need-same-length
 same-length c = search needs
 
 returns : tie.Need-returns
-returns c = let x5 = c .before .before in let x4 = x5 .before .before .before .before .before in let x3 = x4 .before .before .before .before .before in let x2 = x3 .before .before .before .before .before in let x1 = x2 .before .before .before .before .before in laid-then _ _ _ _ _ _ (x1 .put-item .ensures) _ _ (laid-then _ _ _ _ _ _ (x2 .put-item2 .ensures) _ _ (laid-then _ _ _ _ _ _ (x3 .put-item3 .ensures) _ _ (laid-then _ _ _ _ _ _ (x4 .put-item4 .ensures) _ _ (x5 .put-item5 .ensures))))
+returns c =
+    let evicted = c .before .before in
+    let passed = evicted .before .before .before .before .before in
+    let admitted = passed .before .before .before .before .before in
+    let hits = admitted .before .before .before .before .before in
+    let requests = hits .before .before .before .before .before in
+    laid-then _ _ _ _ _ _ (requests .put-item .ensures) _ _ (laid-then _ _ _ _ _ _ (hits .put-item2 .ensures) _ _
+    (laid-then _ _ _ _ _ _ (admitted .put-item3 .ensures) _ _ (laid-then _ _ _ _ _ _ (passed .put-item4 .ensures) _ _ (evicted .put-item5 .ensures))))
 
 pub put-counts-spec : {M : Type 1} → statement M
 put-counts-spec =

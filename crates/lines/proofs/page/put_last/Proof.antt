@@ -15,19 +15,28 @@ slice-aggregate-put-item-2 : tie.Need-slice-aggregate-put-item-2
 slice-aggregate-put-item-2 c = refl
 
 put-item-requires-2 : tie.Need-put-item-requires-2
-put-item-requires-2 c κs = let x1 = c .before .before .before .before in roomy-front _ _ _ _ (roomy-next _ _ _ _ _ _ (x1 .put-item .ensures) (x1 .before .before .before .before .pre))
+put-item-requires-2 c κs =
+    let inflation = c .before .before .before .before in
+    roomy-front _ _ _ _ (roomy-next _ _ _ _ _ _ (inflation .put-item .ensures) (inflation .before .before .before .before .pre))
 
 slice-aggregate-put-item-3 : tie.Need-slice-aggregate-put-item-3
 slice-aggregate-put-item-3 c = refl
 
 put-item-requires-3 : tie.Need-put-item-requires-3
-put-item-requires-3 c κs = let x2 = c .before .before .before .before in let x1 = x2 .before .before .before .before .before in roomy-next _ _ _ _ _ _ (x2 .put-item2 .ensures) (roomy-next _ _ _ _ _ _ (x1 .put-item .ensures) (x1 .before .before .before .before .pre))
+put-item-requires-3 c κs =
+    let used = c .before .before .before .before in
+    let inflation = used .before .before .before .before .before in
+    roomy-next _ _ _ _ _ _ (used .put-item2 .ensures) (roomy-next _ _ _ _ _ _ (inflation .put-item .ensures) (inflation .before .before .before .before .pre))
 
 same-length : tie.Need-same-length
 same-length c = search needs
 
 returns : tie.Need-returns
-returns c = let x3 = c .before .before in let x2 = x3 .before .before .before .before .before in let x1 = x2 .before .before .before .before .before in laid-then _ _ _ _ _ _ (x1 .put-item .ensures) _ _ (laid-then _ _ _ _ _ _ (x2 .put-item2 .ensures) _ _ (x3 .put-item3 .ensures))
+returns c =
+    let files = c .before .before in
+    let used = files .before .before .before .before .before in
+    let inflation = used .before .before .before .before .before in
+    laid-then _ _ _ _ _ _ (inflation .put-item .ensures) _ _ (laid-then _ _ _ _ _ _ (used .put-item2 .ensures) _ _ (files .put-item3 .ensures))
 
 pub put-last-spec : {M : Type 1} → statement M
 put-last-spec =

@@ -10,6 +10,7 @@ use Rattle.trace.specs.Steps.{Fine}
 use Rattle.trace.proofs.Groups.{fresh-fine, fine-next}
 use Rattle.trace.proofs.Walks.{At-field, At-group, field-end, field-group, group-end, group-bad, group-more, group-out, group-last}
 use Rattle.trace.proofs.Heading.{heading, heading-first}
+use Rattle.trace.proofs.Answers.{opening-at, opening-shut}
 use Rattle.trace.proofs.opening.settings_at.Statement.{statement}
 use Rattle.trace.proofs.opening.settings_at.Tie as tie
 
@@ -97,24 +98,24 @@ fields-again c =
 
 returns : tie.Need-returns Inv-groups μ-groups Inv-fields μ-fields
 unfolding heading
-returns c = (c .before .fields .inv .0, c .before .fields .inv .2 ∙ field-end _ _ _ _ _ (c .if1 .taken))
+returns c = opening-at _ _ _ (c .before .fields .inv .0) (c .before .fields .inv .2 ∙ field-end _ _ _ _ _ (c .if1 .taken))
 
 returns-2 : tie.Need-returns-2 Inv-groups μ-groups Inv-fields μ-fields
 unfolding heading
-returns-2 c = c .before .groups .inv .4 ∙ group-end _ _ _ _ _ (omega arith) _ _ (c .if2 .taken)
+returns-2 c = opening-shut _ _ (c .before .groups .inv .4 ∙ group-end _ _ _ _ _ (omega arith) _ _ (c .if2 .taken))
 
 returns-3 : tie.Need-returns-3 Inv-groups μ-groups Inv-fields μ-fields
 unfolding heading
 returns-3 c =
     let q = c .before .before .before .before .before in
-    q .groups .inv .4 ∙ group-bad _ _ _ _ _ (omega arith) _ _ (q .groups .inv .3) (omega arith) (sym (c .before .before .take-group .ensures) ∙ c .enum-told .given .1)
+    opening-shut _ _ (q .groups .inv .4 ∙ group-bad _ _ _ _ _ (omega arith) _ _ (q .groups .inv .3) (omega arith) (sym (c .before .before .take-group .ensures) ∙ c .enum-told .given .1))
 
 returns-4 : tie.Need-returns-4 Inv-groups μ-groups Inv-fields μ-fields
 unfolding heading
 returns-4 c =
     let q = c .before .before .before .before .before .before .before .before in
     let e = sym (c .before .before .before .before .before .take-group .ensures) ∙ c .before .before .before .next2 .given .1 in
-    q .groups .inv .4 ∙ group-out _ _ _ _ _ (omega arith) _ _ (q .groups .inv .3) (omega arith) _ e (denied (c .before .in-settings .ensures) (c .if3 .taken))
+    opening-shut _ _ (q .groups .inv .4 ∙ group-out _ _ _ _ _ (omega arith) _ _ (q .groups .inv .3) (omega arith) _ e (denied (c .before .in-settings .ensures) (c .if3 .taken)))
 
 pub settings-at-spec : {M : Type 1} → statement M
 settings-at-spec =

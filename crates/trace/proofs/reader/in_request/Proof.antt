@@ -5,7 +5,7 @@ use Rattle.trace.proofs.reader.in_request.Statement.{statement}
 use Rattle.trace.proofs.reader.in_request.Tie as tie
 
 returns : tie.Need-returns
-returns c = simp (eq-eqb _ _ (c .if1 .taken))
+returns c = simp (eq-eqb _ _ (c .before .if1 .taken))
 
 is-size-requires : tie.Need-is-size-requires
 is-size-requires c κs = search needs

@@ -16,7 +16,7 @@ use Rattle.trace.proofs.reader.scan.Tie as tie
 abbrev Inv-groups : tie.InvT-groups
 Inv-groups part catalogue from count at₀ field₀ start g₀ at field g =
     (at₀ ≤ at) × (at ≤ length part) × (field ≡ field₀) × Fine g
-    × (counted 0 (readOf (length part) catalogue (drop from part)) ≡ At-group (scanning (length part) catalogue) part count field start g at)
+    × (counted 0 (readOf (length part) (catalogue .0) (drop from part)) ≡ At-group (scanning (length part) (catalogue .0)) part count field start g at)
 
 abbrev μ-groups : tie.MeasureT-groups
 μ-groups part catalogue from count at₀ field₀ start g₀ at field g = length part - at
@@ -24,14 +24,14 @@ abbrev μ-groups : tie.MeasureT-groups
 abbrev Inv-fields : tie.InvT-fields
 Inv-fields part catalogue from count at₀ field₀ at field =
     (at₀ + field ≤ at) × (at ≤ length part) × (field ≤ 3)
-    × (counted 0 (readOf (length part) catalogue (drop from part)) ≡ At-field (scanning (length part) catalogue) part count field at)
+    × (counted 0 (readOf (length part) (catalogue .0) (drop from part)) ≡ At-field (scanning (length part) (catalogue .0)) part count field at)
 
 abbrev μ-fields : tie.MeasureT-fields
 μ-fields part catalogue from count at₀ field₀ at field = 3 - field
 
 abbrev Inv-requests : tie.InvT-requests
 Inv-requests part catalogue from count₀ at₀ count at =
-    (count ≤ at) × (at ≤ length part) × (counted 0 (readOf (length part) catalogue (drop from part)) ≡ At-request part catalogue count at)
+    (count ≤ at) × (at ≤ length part) × (counted 0 (readOf (length part) (catalogue .0) (drop from part)) ≡ At-request part (catalogue .0) count at)
 
 abbrev μ-requests : tie.MeasureT-requests
 μ-requests part catalogue from count₀ at₀ count at = length part - at

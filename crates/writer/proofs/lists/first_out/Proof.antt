@@ -12,7 +12,7 @@ use Rattle.writer.proofs.lists.first_out.Tie as tie
 
 abbrev Inv-loop : tie.InvT-loop
 Inv-loop catalogue files sizes costs i₀ i =
-    (i ≤ length files) × (firstOut catalogue (requestsIn files sizes costs) ≡ i + firstOut catalogue (restAt files sizes costs i))
+    (i ≤ length files) × (firstOut (catalogue .0) (requestsIn files sizes costs) ≡ i + firstOut (catalogue .0) (restAt files sizes costs i))
 
 abbrev μ-loop : tie.MeasureT-loop
 μ-loop catalogue files sizes costs i₀ i = length files - i

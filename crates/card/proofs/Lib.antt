@@ -1,0 +1,2 @@
+-- The laws of the red card.
+pub mod Cases
