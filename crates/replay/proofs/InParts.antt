@@ -9,9 +9,8 @@ use lib.Seq.{sets, sets-eq, take-at}
 use Rattle.amounts.specs.Settings.{inRange}
 use Rattle.amounts.specs.Requests.{Request}
 use Rattle.amounts.specs.declared.settings.Settings.{Settings}
-use Rattle.card.specs.Card.{Card, cardOf, valueOf}
-use Rattle.card.specs.declared.Refusal.{Refusal}
-use Rattle.card.specs.declared.Refusal.the-variants.{Setting, Short, Form, Range, TooMany, Room, Unsound, OtherUnit, TooLong}
+use Rattle.card.specs.Card.{Card, valueOf}
+use Rattle.card.proofs.Cases.{refusal-not-done}
 use Rattle.method.specs.Shelf.{bytes, files}
 use Rattle.method.specs.Method.{State, Served, Run, run, step}
 use Rattle.method.specs.Totals.{totals}
@@ -41,17 +40,6 @@ use Rattle.replay.proofs.OneAnswer.{one-shelf}
 use Rattle.replay.proofs.Walking.{good-one, stands}
 
 -- ---- a call that is done
-
-pub refusal-not-done : (x : Refusal) → cardOf x .number ≡ 0 → ⊥
-refusal-not-done Setting e = absurd (omega (arith, e))
-refusal-not-done Short e = absurd (omega (arith, e))
-refusal-not-done (Form v) e = absurd (omega (arith, e))
-refusal-not-done (Range v) e = absurd (omega (arith, e))
-refusal-not-done TooMany e = absurd (omega (arith, e))
-refusal-not-done Room e = absurd (omega (arith, e))
-refusal-not-done Unsound e = absurd (omega (arith, e))
-refusal-not-done OtherUnit e = absurd (omega (arith, e))
-refusal-not-done TooLong e = absurd (omega (arith, e))
 
 -- the events of a run are at the front of the list that they were written into
 events-taken : (es told told′ : List ℕ) (n : ℕ) → n ≡ length es → length es ≤ length told → told′ ≡ sets told 0 es → take n told′ ≡ es

@@ -7,6 +7,7 @@ use lib.Seq.{drop-at}
 use Rattle.amounts.specs.declared.settings.Settings.{Settings}
 use Rattle.card.specs.Card.{cardOf}
 use Rattle.card.specs.declared.Refusal.{Refusal}
+use Rattle.card.proofs.Cases.{refusal-not-done}
 use Rattle.trace.specs.Writing.{Put}
 use Rattle.trace.specs.Cards.{answerCard}
 use Rattle.trace.specs.declared.answer.Answer.{Answer}
@@ -20,7 +21,6 @@ use Rattle.refusing.specs.declared.settings.Settled.{Settled}
 use Rattle.refusing.specs.declared.settings.Settled.the-variants as verdict
 use Rattle.replay.specs.Agreeing.{Left}
 use Rattle.replay.proofs.Cases.{dueHere, answers, past}
-use Rattle.replay.proofs.InParts.{refusal-not-done}
 use Rattle.replay.proofs.OneAnswer.{carry-on-one-answer}
 use Rattle.words.specs.Words.{answerWord, tallyWords, tallyIn}
 use Rattle.words.proofs.Wording.{number-small, number-in, tally-over}
