@@ -9,8 +9,9 @@ use lib.Seq.{getD-set-same, getD-set-other}
 use Rattle.amounts.specs.Limits.{noPlace, placesMost}
 use Rattle.amounts.specs.declared.settings.Settings.{Settings}
 use Rattle.amounts.proofs.Tests.{same, below}
-use Rattle.queue.specs.Queue.{total, is, times, Whole, Removed, Inserted}
-use Rattle.queue.proofs.Totals.{total-last, total-more, total-same, times-at, times-found, times-none, Found, is-same, is-other}
+use Rattle.queue.specs.Queue.{total, is, times, Whole, Apart, Removed, Inserted}
+use Rattle.queue.specs.Moves.{Rearranged}
+use Rattle.queue.proofs.Totals.{total-last, total-more, total-prefix, total-same, times-at, times-found, times-none, Found, is-same, is-other}
 use Rattle.queue.proofs.Callers.{whole-record, whole-behind}
 use Rattle.tables.specs.Tables.{Tables, Long}
 use Rattle.tables.specs.Sound.{At, Occupied, Zero, Linked, Queued, Spare}
@@ -87,13 +88,29 @@ module _ (s : Settings) (n m : ℕ) (t u : Tables) (entry entry′ : List ℕ) (
 
 -- ---- the queue taken from and put back into: the places that it holds, with those behind it, stay
 
-pub removed-held : (q q′ entry entry′ keys stamps : List ℕ) (m n : ℕ) → 0 < m → m ≤ n → Removed q q′ entry entry′ keys stamps m 0 (getD q 0 0) → (f : ℕ → ℕ) → total f q′ n ≡ total f q n
-removed-held q q′ entry entry′ keys stamps m n pos h r f =
-    total-past f q q′ m n h (r .apart .past) (total-last f q′ m pos ∙ ap (λ (v : ℕ). total f q′ (m - 1) + f v) (r .freed) ∙ r .held f)
+-- what is as it was apart from the first m entries is so apart from the first n
+apart-wider : {q q′ e e′ : List ℕ} {m k : ℕ} (n : ℕ) → m ≤ n → k ≤ n → Apart q q′ e e′ m k → Apart q q′ e e′ n n
+apart-wider {q} {q′} {m = m} n h g a =
+    record {
+      long = a .long;
+      entries = a .entries;
+      past = λ i b. a .past i (omega arith);
+      unheld = λ p z. a .unheld p (omega (arith, total-prefix (is p) q′ m n h));
+    }
 
-pub inserted-held : (q q′ entry entry′ keys stamps : List ℕ) (m n : ℕ) → m < n → Inserted q q′ entry entry′ keys stamps m (getD q m 0) → (f : ℕ → ℕ) → total f q′ n ≡ total f q n
-inserted-held q q′ entry entry′ keys stamps m n h r f =
-    total-past f q q′ (m + 1) n (omega arith) (r .apart .past) (r .held f ∙ sym (total-more f q m))
+pub removed-kept : (q q′ e e′ keys stamps : List ℕ) (m n : ℕ) → 0 < m → m ≤ n → Removed q q′ e e′ keys stamps m 0 (getD q 0 0) → Rearranged q q′ e e′ n
+removed-kept q q′ e e′ keys stamps m n pos h r =
+    record {
+      held = λ f. total-past f q q′ m n h (r .apart .past) (total-last f q′ m pos ∙ ap (λ (v : ℕ). total f q′ (m - 1) + f v) (r .freed) ∙ r .held f);
+      apart = apart-wider n (omega arith) h (r .apart);
+    }
+
+pub inserted-kept : (q q′ e e′ keys stamps : List ℕ) (m n : ℕ) → m < n → Inserted q q′ e e′ keys stamps m (getD q m 0) → Rearranged q q′ e e′ n
+inserted-kept q q′ e e′ keys stamps m n h r =
+    record {
+      held = λ f. total-past f q q′ (m + 1) n (omega arith) (r .apart .past) (r .held f ∙ sym (total-more f q m));
+      apart = apart-wider n (omega arith) (omega arith) (r .apart);
+    }
 
 -- ---- a file dropped: the one at the last entry behind the queue
 

@@ -25,7 +25,7 @@ use Rattle.shelving.specs.Live.{Live}
 use Rattle.shelving.specs.Room.{roomFor, firstKey, firstSize, Popped, none, more}
 use Rattle.shelving.specs.Evicting.{withQueue, goneAt, behind, without}
 use Rattle.shelving.proofs.MakingRoom.{aside-fits, aside-empty, aside-above, aside-more, fewer, test}
-use Rattle.shelving.proofs.Lives.{live-same, removed-held}
+use Rattle.shelving.proofs.Lives.{live-same, removed-kept}
 use Rattle.shelving.proofs.Covers.{Covers, shelf-covered, covers-less}
 
 -- ---- the files behind the queue
@@ -100,7 +100,7 @@ module _ (s : Settings) (n : ℕ) (t : Tables) (entry : List ℕ) (z limit l₀ 
       let f : ℕ = getD (t .file) (getD q 0 0) 0 in
       let k : Kept = recordAt t (getD q 0 0) in
       let part : m ≤ n = y .live .part in
-      let past : (i : ℕ) → n ≤ i → getD q′ i 0 ≡ getD q i 0 = λ i c. r .apart .past i (omega arith) in
+      let kept = removed-kept q q′ e e′ (t .key) (t .stamp) m n pos part r in
       let long = y .live .long in
       let step : aside (storeOf s) z limit (suc fuel) l (y .shelf) ≡ first f k (aside (storeOf s) z limit fuel (k .key) (set (y .shelf) f none)) =
       aside-more (storeOf s) z limit fuel l (y .shelf) f k (sym (room-fits (y .shelf) b m (y .count) (y .weight)) ∙ full) (first-lowest q e m l b y w pos) low in
@@ -115,7 +115,7 @@ module _ (s : Settings) (n : ℕ) (t : Tables) (entry : List ℕ) (z limit l₀ 
             live-same s n m (withQueue q t) (withQueue q′ t) e e′ (y .live) refl refl
             (λ p _. record { file = refl; size = refl; cost = refl; freq = refl; key = refl; stamp = refl }) (m - 1) (omega arith)
             (record { place = long .place; file = long .file; size = long .size; cost = long .cost; freq = long .freq; key = long .key; stamp = long .stamp; queue = omega (arith, long .queue, r .apart .long) })
-            (r .apart .entries) (removed-held q q′ e e′ (t .key) (t .stamp) m n pos part r) past (r .whole);
+            (r .apart .entries) (kept .held) (kept .apart .past) (r .whole);
         shelf = set (y .shelf) f none;
         covers = covers-less s t q q′ e e′ (t .key) (t .stamp) m (y .shelf) (y .covers) (record { whole = w; inside = pos }) r;
         apart = apart-none (y .shelf) f (y .apart);
