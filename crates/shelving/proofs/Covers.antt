@@ -21,6 +21,7 @@ use Rattle.tables.specs.Sound.{At, Occupied}
 use Rattle.tables.proofs.Shelves.{slot-none, slot-kept, shelf-at, shelf-length}
 use Rattle.shelving.specs.Live.{Live}
 use Rattle.shelving.proofs.Links.{at-file, at-place, at-occupied}
+use Rattle.shelving.proofs.Lives.{unheld}
 
 -- file f, of which r is kept, has a place that the first m entries hold
 abbrev Filed : Settings → Tables → List ℕ → ℕ → ℕ → Kept → Type 0
@@ -82,12 +83,9 @@ module _ (s : Settings) (t : Tables) (q r : List ℕ) (n m p : ℕ) (x : Shelf) 
   off-entry i b =
       let k : ℕ = getD r i 0 in
       let np : k ≡ p → ⊥ = times-none p r i m gone b in
-      found np (times-found k q n (omega (arith, times-at r i m b, others k np)))
-    where
-      found : (getD r i 0 ≡ p → ⊥) → Found (getD r i 0) q n → Shelved s t off (getD r i 0)
-      found np w =
-          let z : Shelved s t x (getD r i 0) = subst (Shelved s t x) (w .is) (c .entry (w .entry) (w .before)) in
-          (z .0, getD-set-other x (getD (t .file) p 0) _ none none (λ e. np (at-place s t _ _ p (z .0) (subst (λ (v : ℕ). At s t v p) (sym e) (there .0)))) ∙ z .1)
+      let w : Found k q n = times-found k q n (omega (arith, times-at r i m b, others k np)) in
+      let z : Shelved s t x k = subst (Shelved s t x) (w .is) (c .entry (w .entry) (w .before)) in
+      (z .0, getD-set-other x (getD (t .file) p 0) _ none none (λ e. np (at-place s t _ _ p (z .0) (subst (λ (v : ℕ). At s t v p) (sym e) (there .0)))) ∙ z .1)
 
   covers-off : Covers s t r m off
   covers-off = record { file = off-file; entry = off-entry }
@@ -106,11 +104,8 @@ module _ (s : Settings) (t : Tables) (q : List ℕ) (n : ℕ) (distinct : (i j :
   covers-last : (m : ℕ) (x : Shelf) → m < n → Covers s t q (m + 1) x → Covers s t q m (set x (getD (t .file) (getD q m 0) 0) none)
   covers-last m x h c =
       covers-off s t q q (m + 1) m (getD q m 0) x c (c .entry m (omega arith))
-      (⊎-elim (λ e. e) (λ ne. absurd (twice (times-found (getD q m 0) q m (omega arith)))) (same (times (getD q m 0) q m) 0))
+      (unheld (getD q m 0) q m (λ w. omega (arith, w .before, distinct (w .entry) m (omega (arith, w .before)) h (w .is))))
       (λ k ne. omega (arith, total-more (is k) q m, is-other k (getD q m 0) ne))
-    where
-      twice : Found (getD q m 0) q m → ⊥
-      twice w = omega (arith, w .before, distinct (w .entry) m (omega (arith, w .before)) h (w .is))
 
   pub sum-covered : (w : Kept → ℕ) (m : ℕ) (x : Shelf) → m ≤ n → Covers s t q m x → sum w x ≡ total (λ p. w (recordAt t p)) q m
   unfolding total

@@ -33,7 +33,8 @@ but-sym f p t u b =
           record { file = sym (r .file); size = sym (r .size); cost = sym (r .cost); freq = sym (r .freq); key = sym (r .key); stamp = sym (r .stamp) };
     }
 
-zero-same : (t u : Tables) (k : ℕ) → SameAt t u k → Zero t k → Zero u k
+-- so is a record of 0
+pub zero-same : (t u : Tables) (k : ℕ) → SameAt t u k → Zero t k → Zero u k
 zero-same t u k r z =
     record { file = r .file ∙ z .file; size = r .size ∙ z .size; cost = r .cost ∙ z .cost; freq = r .freq ∙ z .freq; key = r .key ∙ z .key; stamp = r .stamp ∙ z .stamp }
 

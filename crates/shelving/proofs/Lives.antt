@@ -16,7 +16,8 @@ use Rattle.queue.proofs.Callers.{whole-record, whole-behind}
 use Rattle.tables.specs.Tables.{Tables, Long}
 use Rattle.tables.specs.Sound.{At, Occupied, Zero, Linked, Queued, Spare}
 use Rattle.shelving.specs.Live.{Live, Stack}
-use Rattle.shelving.proofs.Links.{SameAt, But, at-file, at-place, at-occupied, occupied-there, occupied-back, linked-there}
+use Rattle.shelving.specs.Evicting.{withQueue}
+use Rattle.shelving.proofs.Links.{SameAt, But, zero-same, at-file, at-place, at-occupied, occupied-there, occupied-back, linked-there}
 
 -- ---- what is held among the first n entries, from what is held among the first m
 
@@ -28,6 +29,14 @@ total-past f q r m (suc n) h p e =
     (λ g. let c : total f r n ≡ total f q n = total-past f q r m n (omega arith) p e in let d : getD r n 0 ≡ getD q n 0 = p n (omega arith) in rw (c, d))
     (λ g. let c : m ≡ suc n = omega arith in subst (λ (k : ℕ). total f r k ≡ total f q k) c e)
     (below m (suc n))
+
+-- what the first n entries of r hold, those of q hold
+pub held-found : (q r : List ℕ) (n : ℕ) → ((f : ℕ → ℕ) → total f r n ≡ total f q n) → (i : ℕ) → i < n → Found (getD r i 0) q n
+held-found q r n h i b = times-found (getD r i 0) q n (omega (arith, times-at r i n b, h (is (getD r i 0))))
+
+-- what stands at no entry is not held
+pub unheld : (p : ℕ) (q : List ℕ) (n : ℕ) → (Found p q n → ⊥) → times p q n ≡ 0
+unheld p q n h = ⊎-elim (λ e. e) (λ ne. absurd (h (times-found p q n (omega arith)))) (same (times p q n) 0)
 
 -- ---- the same files at the same places, and the same places in the queue
 
@@ -49,10 +58,7 @@ module _ (s : Settings) (n m : ℕ) (t u : Tables) (entry entry′ : List ℕ) (
   linked-same =
       record {
         out = λ f b. ⊎-elim (λ e. inl (rw places e)) (λ a. inr (at-same f _ (subst (At s t f) (ap (λ (l : List ℕ). getD l f 0) (sym places)) a))) (h .linked .out f b);
-        unused = λ p b no.
-            let z = h .linked .unused p b (λ o. no (occ-same p o)) in
-            let r = records p (λ o. no (occ-same p o)) in
-            record { file = r .file ∙ z .file; size = r .size ∙ z .size; cost = r .cost ∙ z .cost; freq = r .freq ∙ z .freq; key = r .key ∙ z .key; stamp = r .stamp ∙ z .stamp };
+        unused = λ p b no. zero-same t u p (records p (λ o. no (occ-same p o))) (h .linked .unused p b (λ o. no (occ-same p o)));
       }
 
   pub live-same : (m′ : ℕ) → m′ ≤ n → Long (s .places .0) (s .catalogue .0) u → length entry′ ≡ length entry
@@ -69,15 +75,14 @@ module _ (s : Settings) (n m : ℕ) (t u : Tables) (entry entry′ : List ℕ) (
         linked = linked-same;
         queued =
             record {
-              entries = λ i b. entry-at i (times-found (getD (u .queue) i 0) (t .queue) n (omega (arith, times-at (u .queue) i n b, held (is (getD (u .queue) i 0)))));
+              entries = λ i b.
+                  let w = held-found (t .queue) (u .queue) n held i b in
+                  occ-same _ (subst (Occupied s t) (w .is) (h .queued .entries (w .entry) (w .before)));
               once = λ p o. held (is p) ∙ h .queued .once p (occ-back p o);
               rest = λ i a b. past i a ∙ h .queued .rest i a b;
             };
         whole = whole;
       }
-    where
-      entry-at : (i : ℕ) → Found (getD (u .queue) i 0) (t .queue) n → Occupied s u (getD (u .queue) i 0)
-      entry-at i w = occ-same _ (subst (Occupied s t) (w .is) (h .queued .entries (w .entry) (w .before)))
 
   pub stack-same : (free : List ℕ) → Stack s n t free → Stack s n u free
   stack-same free f =
@@ -111,6 +116,15 @@ inserted-kept q q′ e e′ keys stamps m n h r =
       held = λ f. total-past f q q′ (m + 1) n (omega arith) (r .apart .past) (r .held f ∙ sym (total-more f q m));
       apart = apart-wider n (omega arith) (omega arith) (r .apart);
     }
+
+-- the same tables with a queue of the same places, of which other entries may be set aside
+pub live-queue : (s : Settings) (n m m′ : ℕ) (t : Tables) (q q′ e e′ : List ℕ) → Live s n m (withQueue q t) e → m′ ≤ n → Rearranged q q′ e e′ n
+    → Whole q′ e′ (t .key) (t .stamp) m′ → Live s n m′ (withQueue q′ t) e′
+live-queue s n m m′ t q q′ e e′ h part k w =
+    let l = h .long in
+    live-same s n m (withQueue q t) (withQueue q′ t) e e′ h refl refl (λ p _. record { file = refl; size = refl; cost = refl; freq = refl; key = refl; stamp = refl }) m′ part
+    (record { place = l .place; file = l .file; size = l .size; cost = l .cost; freq = l .freq; key = l .key; stamp = l .stamp; queue = omega (arith, l .queue, k .apart .long) })
+    (k .apart .entries) (k .held) (k .apart .past) w
 
 -- ---- a file dropped: the one at the last entry behind the queue
 
@@ -228,10 +242,7 @@ module _ (s : Settings) (n f p : ℕ) (t u : Tables) (entry entry′ free : List
   place-in = omega (arith, top, st .spare .unused (s .places .0 - n - 1) (omega arith) .0)
 
   pub place-unheld : times p (t .queue) n ≡ 0
-  place-unheld = ⊎-elim (λ e. e) (λ ne. absurd (found (times-found p (t .queue) n (omega arith)))) (same (times p (t .queue) n) 0)
-    where
-      found : Found p (t .queue) n → ⊥
-      found w = place-free (subst (Occupied s t) (w .is) (h .queued .entries (w .entry) (w .before)))
+  place-unheld = unheld p (t .queue) n (λ w. place-free (subst (Occupied s t) (w .is) (h .queued .entries (w .entry) (w .before))))
 
   nowhere : (k : ℕ) → At s t f k → k ≡ p
   nowhere k b = absurd (omega (arith, b .place, b .inside, out, h .places))
@@ -250,11 +261,9 @@ module _ (s : Settings) (n f p : ℕ) (t u : Tables) (entry entry′ free : List
       (λ e. subst (Occupied s u) (sym e) (at-occupied s u f p a))
       (λ ne.
       let k : ℕ = getD (u .queue) i 0 in
-      found (times-found k (t .queue) n (omega (arith, times-at (u .queue) i (n + 1) b, held (is k), is-other k p ne))))
+      let w = times-found k (t .queue) n (omega (arith, times-at (u .queue) i (n + 1) b, held (is k), is-other k p ne)) in
+      stays k (subst (Occupied s t) (w .is) (h .queued .entries (w .entry) (w .before))))
       (same (getD (u .queue) i 0) p)
-    where
-      found : Found (getD (u .queue) i 0) (t .queue) n → Occupied s u (getD (u .queue) i 0)
-      found w = stays _ (subst (Occupied s t) (w .is) (h .queued .entries (w .entry) (w .before)))
 
   kept-once : (k : ℕ) → Occupied s u k → times k (u .queue) (n + 1) ≡ 1
   kept-once k o = ⊎-elim
