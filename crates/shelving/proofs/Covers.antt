@@ -1,20 +1,20 @@
 -- A shelf and the queue that covers it: each kept file's place is in the queue, and each entry's file is kept. Assumes nothing.
-use mathlib.Core.Path.{_≡_, refl, sym, ap, _∙_, subst}
-use mathlib.Core.Logic.{_⊎_, inl, inr, ⊎-elim}
+use mathlib.Core.Path.{_≡_, sym, ap, _∙_, subst}
+use mathlib.Core.Logic.{_⊎_, ⊎-elim}
 use mathlib.Core.List.{List}
 use Prim.Native.Nat.{ℕ, zero, suc, _+_, _-_, _≤_, _<_}
 use native.Mathlib.Omega.{arith}
 use native.Mathlib.Numerals.{add-one}
-use lib.ListN.{length, getD, set, length-set}
+use lib.ListN.{getD, set}
 use lib.Seq.{getD-set-same, getD-set-other}
 use Rattle.amounts.specs.Limits.{noPlace}
 use Rattle.amounts.specs.declared.settings.Settings.{Settings}
 use Rattle.amounts.proofs.Tests.{same}
-use Rattle.queue.specs.Queue.{total, is, times, Whole, Holding, Removed}
+use Rattle.queue.specs.Queue.{total, is, times, Holding, Removed}
 use Rattle.queue.proofs.Totals.{total-more, times-at, times-none, times-found, Found, is-other}
 use Rattle.queue.proofs.Callers.{removed-gone, removed-other}
-use Rattle.method.specs.Shelf.{Kept, Slot, none, kept, Shelf, sum, Each}
-use Rattle.method.proofs.Shelves.{none-kept, is-kept, kept-lt, at-set, sum-set-eq}
+use Rattle.method.specs.Shelf.{Kept, none, kept, Shelf, sum}
+use Rattle.method.proofs.Shelves.{none-kept, kept-lt, at-set, sum-set-eq}
 use Rattle.method.proofs.Room.{sum-empty}
 use Rattle.tables.specs.Tables.{Tables, recordAt, slotOf, shelfOf}
 use Rattle.tables.specs.Sound.{At, Occupied}
@@ -114,5 +114,6 @@ module _ (s : Settings) (t : Tables) (q : List ℕ) (n : ℕ) (distinct : (i j :
       let f : ℕ = getD (t .file) (getD q m 0) 0 in
       let z : getD x f none ≡ kept (recordAt t (getD q m 0)) = c .entry m (omega arith) .1 in
       let d : sum w (set x f none) + w (recordAt t (getD q m 0)) ≡ 0 + sum w x = rw z at (sum-set-eq w x f none (kept-lt x f _ z)) in
-      let r : sum w (set x f none) ≡ total (λ p. w (recordAt t p)) q m = sum-covered w m (set x f none) (omega arith) (covers-last m x (omega arith) (subst (λ (k : ℕ). Covers s t q k x) (sym (add-one m)) c)) in
+      let less = covers-last m x (omega arith) (subst (λ (k : ℕ). Covers s t q k x) (sym (add-one m)) c) in
+      let r : sum w (set x f none) ≡ total (λ p. w (recordAt t p)) q m = sum-covered w m (set x f none) (omega arith) less in
       omega arith

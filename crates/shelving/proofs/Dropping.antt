@@ -1,24 +1,24 @@
 -- Dropping the files behind the queue: what each turn keeps, and what all of them leave. Assumes nothing.
 use mathlib.Core.Path.{_≡_, refl, sym, ap, _∙_, subst}
-use mathlib.Core.Logic.{_⊎_, inl, inr, ⊎-elim}
-use mathlib.Core.List.{List, [], _∷_}
+use mathlib.Core.Logic.{_⊎_, ⊎-elim}
+use mathlib.Core.List.{List}
 use Prim.Native.Nat.{ℕ, zero, suc, _+_, _-_, _≤_, _<_}
 use native.Mathlib.Omega.{arith}
 use lib.ListN.{length, getD, set, length-set}
 use lib.Seq.{getD-set-same, getD-set-other}
-use Rattle.amounts.specs.Limits.{noPlace, placesMost}
+use Rattle.amounts.specs.Limits.{noPlace}
 use Rattle.amounts.specs.declared.settings.Settings.{Settings}
 use Rattle.queue.specs.Queue.{is, times, Whole}
 use Rattle.queue.proofs.Totals.{total-last, total-prefix, is-same}
 use Rattle.queue.proofs.Callers.{whole-record, whole-behind}
-use Rattle.method.specs.Shelf.{none, Shelf}
+use Rattle.method.specs.Shelf.{none}
 use Rattle.method.specs.Method.{Gone}
-use Rattle.tables.specs.Tables.{Tables, Long, recordAt, slotOf, shelfOf}
-use Rattle.tables.specs.Sound.{At, Occupied, Zero}
+use Rattle.tables.specs.Tables.{Tables, Long, recordAt, shelfOf}
+use Rattle.tables.specs.Sound.{At, Occupied}
 use Rattle.tables.proofs.Shelves.{shelf-change, slot-none}
 use Rattle.shelving.specs.Live.{Live, Stack}
 use Rattle.shelving.specs.Evicting.{withQueue, goneAt, behind, without, clearAt, lastPlace, dropLast, dropAll, stackAll, Droppable}
-use Rattle.shelving.proofs.Links.{SameAt, But, at-file, at-place, at-occupied, occupied-there}
+use Rattle.shelving.proofs.Links.{SameAt, But, at-file, at-place, occupied-there}
 use Rattle.shelving.proofs.Lives as lives
 use Rattle.shelving.proofs.Lives.{live-drop, stack-drop}
 use Rattle.shelving.proofs.Popping.{behind-same}

@@ -4,17 +4,15 @@ use mathlib.Core.Logic.{_⊎_, inl, inr, ⊎-elim}
 use mathlib.Core.List.{List}
 use Prim.Native.Nat.{ℕ, zero, suc, _+_, _-_, _≤_, _<_}
 use native.Mathlib.Omega.{arith}
-use lib.ListN.{length, getD, set, length-set}
-use lib.Seq.{getD-set-same, getD-set-other}
-use Rattle.amounts.specs.Limits.{noPlace, placesMost}
+use lib.ListN.{length, getD}
+use Rattle.amounts.specs.Limits.{noPlace}
 use Rattle.amounts.specs.declared.settings.Settings.{Settings}
 use Rattle.amounts.proofs.Tests.{same, below}
 use Rattle.queue.specs.Queue.{total, is, times, Whole, Apart, Removed, Inserted}
 use Rattle.queue.specs.Moves.{Rearranged}
 use Rattle.queue.proofs.Totals.{total-last, total-more, total-prefix, total-same, times-at, times-found, times-none, Found, is-same, is-other}
-use Rattle.queue.proofs.Callers.{whole-record, whole-behind}
 use Rattle.tables.specs.Tables.{Tables, Long}
-use Rattle.tables.specs.Sound.{At, Occupied, Zero, Linked, Queued, Spare}
+use Rattle.tables.specs.Sound.{At, Occupied, Zero, Linked}
 use Rattle.shelving.specs.Live.{Live, Stack}
 use Rattle.shelving.specs.Evicting.{withQueue}
 use Rattle.shelving.proofs.Links.{SameAt, But, zero-same, at-file, at-place, at-occupied, occupied-there, occupied-back, linked-there}
@@ -152,18 +150,13 @@ module _ (s : Settings) (n m f p : ℕ) (t u : Tables) (entry : List ℕ) (h : L
 
   not-p : (Occupied s u p → ⊥)
   not-p o =
-      let z : getD (u .file) p 0 ≡ 0 = d .zero .file in
-      free-p (same (getD (u .file) p 0) f) o
-    where
-      free-p : ((getD (u .file) p 0 ≡ f) ⊎ (getD (u .file) p 0 ≡ f → ⊥)) → Occupied s u p → ⊥
-      free-p (inl e) o = omega (arith, o .place, ap (λ (g : ℕ). getD (u .place) g 0) e, d .gone, o .inside, h .places)
-      free-p (inr ne) o =
-          let g : ℕ = getD (u .file) p 0 in
-          let q : getD (t .place) g 0 ≡ p = sym (d .but .places g ne) ∙ o .place in
-          ⊎-elim
-          (λ e. absurd (omega (arith, o .inside, h .places)))
-          (λ b. ne (at-file s t g f p (subst (At s t g) q b) a))
-          (h .linked .out g (o .known))
+      let g : ℕ = getD (u .file) p 0 in
+      ⊎-elim
+      (λ e. omega (arith, o .place, ap (λ (g : ℕ). getD (u .place) g 0) e, d .gone, o .inside, h .places))
+      (λ ne.
+      let q : getD (t .place) g 0 ≡ p = sym (d .but .places g ne) ∙ o .place in
+      ⊎-elim (λ e. omega (arith, o .inside, h .places)) (λ b. ne (at-file s t g f p (subst (At s t g) q b) a)) (h .linked .out g (o .known)))
+      (same g f)
 
   dropped-total : (g : ℕ → ℕ) → total g (u .queue) (n - 1) ≡ total g (t .queue) (n - 1)
   dropped-total g = total-same g g (u .queue) (t .queue) (n - 1) (λ i b. ap g (d .past i (omega arith)))
@@ -176,7 +169,8 @@ module _ (s : Settings) (n m f p : ℕ) (t u : Tables) (entry : List ℕ) (h : L
   pub stack-drop : (free free′ : List ℕ) → Stack s n t free → length free′ ≡ length free → getD free′ (s .places .0 - n) 0 ≡ p
       → ((i : ℕ) → (i ≡ s .places .0 - n → ⊥) → getD free′ i 0 ≡ getD free i 0) → Stack s (n - 1) u free′
   stack-drop free free′ k long top rest =
-      record { long = omega (arith, k .long); spare = record { unused = λ i b. unused i b (same i (s .places .0 - n)); apart = λ i j b c. apart i j b c (same i (s .places .0 - n)) (same j (s .places .0 - n)) } }
+      let end : ℕ = s .places .0 - n in
+      record { long = omega (arith, k .long); spare = record { unused = λ i b. unused i b (same i end); apart = λ i j b c. apart i j b c (same i end) (same j end) } }
     where
       -- what was free before is not p
       old : (i : ℕ) → i + n < s .places .0 → getD free i 0 ≡ p → ⊥
@@ -214,7 +208,9 @@ module _ (s : Settings) (n m f p : ℕ) (t u : Tables) (entry : List ℕ) (h : L
         linked = linked-there s f p t u (d .but) only no-place (h .linked) (inl (d .gone)) (λ g b. at-file s t g f p b a) (λ _ _. d .zero);
         queued =
             record {
-              entries = λ i b. subst (Occupied s u) (sym (d .past i (omega arith))) (occupied-there s f p t u (d .but) only (getD (t .queue) i 0) (h .queued .entries i (omega arith)) (before-last i b));
+              entries = λ i b.
+                  subst (Occupied s u) (sym (d .past i (omega arith)))
+                  (occupied-there s f p t u (d .but) only (getD (t .queue) i 0) (h .queued .entries i (omega arith)) (before-last i b));
               once = λ k o.
                   let ne : k ≡ p → ⊥ = λ q. not-p (subst (Occupied s u) q o) in
                   let w : times k (t .queue) n ≡ 1 = h .queued .once k (occupied-back s f p t u (d .but) only no-place k o ne) in

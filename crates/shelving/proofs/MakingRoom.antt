@@ -1,24 +1,23 @@
 -- What is set aside is what each policy takes. Assumes nothing.
 use mathlib.Core.Path.{_≡_, refl, sym, ap, _∙_, subst}
 use mathlib.Core.Logic.{_⊎_, inl, inr, ⊎-elim}
-use mathlib.Core.Bool.{Bool, true, false, _||_, _&&_}
+use mathlib.Core.Bool.{Bool, true, false, _||_}
 use mathlib.Core.List.{List, [], _∷_}
 use Prim.Native.Nat.{ℕ, zero, suc, _+_, _≤_, _<_}
 use native.Mathlib.Omega.{arith}
-use lib.Dec.{leb, ltb, eqb}
-use borrow.Author.Tests.{ltb-true, ltb-false, lt-ltb, le-ltb, le-leb, ne-eqb}
+use lib.Dec.{eqb}
+use borrow.Author.Tests.{lt-ltb, le-ltb, le-leb, ne-eqb}
 use lib.ListN.{length, getD, set, length-set}
 use lib.Seq.{getD-set-same, getD-set-other, set-comm}
-use Rattle.amounts.specs.Limits.{pick}
 use Rattle.amounts.specs.Requests.{Request}
 use Rattle.amounts.proofs.Tests.{pick-true, pick-false, same, below}
 use Rattle.amounts.proofs.Ordering.{not-lower, lower-self}
-use Rattle.method.specs.Shelf.{Kept, Slot, none, kept, Shelf, sum, bytes, files, NotLower, Found, nothing, at, lowest, Each}
+use Rattle.method.specs.Shelf.{Kept, none, kept, Shelf, bytes, files, NotLower, Found, nothing, at, lowest, Each}
 use Rattle.method.specs.Method.{Settings, gds, gdsf, Gone, Wanted, fits, beside, among, next, Cleared, also, clear, goes, served, missed, keyed, newcomer, admit}
 use Rattle.method.specs.declared.outcome.Pass.the-variants.{LowKey}
 use Rattle.method.specs.declared.outcome.Outcome.the-variants.{Admitted, Passed}
 use Rattle.method.specs.Promise.{Apart}
-use Rattle.method.proofs.Shelves.{Good, none-kept, is-kept, sum-set, sum-set-eq, sum-none, each-set, at-set, kept-lt, lowest-good, lowest-is, lowest-nothing, not-lower-key}
+use Rattle.method.proofs.Shelves.{Good, none-kept, is-kept, sum-set-eq, sum-none, each-set, kept-lt, lowest-good, lowest-is, not-lower-key}
 use Rattle.method.proofs.Room.{clear-stop, clear-more, sum-empty}
 use Rattle.method.proofs.Sound.{apart-none, apart-put}
 use Rattle.method.proofs.Runs.{goes-here}

@@ -1,17 +1,16 @@
 -- What is popped from the queue is what is set aside on the shelf. Assumes nothing.
 use mathlib.Core.Path.{_≡_, refl, sym, ap, _∙_, subst}
-use mathlib.Core.Logic.{_⊎_, inl, inr, ⊎-elim}
-use mathlib.Core.Bool.{Bool, true, false, _&&_}
+use mathlib.Core.Logic.{_⊎_, ⊎-elim}
+use mathlib.Core.Bool.{true, false}
 use mathlib.Core.List.{List, [], _∷_, _++_, append-assoc, append-nil}
 use Prim.Native.Nat.{ℕ, zero, suc, _+_, _-_, _≤_, _<_}
 use native.Mathlib.Omega.{arith}
 use lib.ListN.{length, getD, set}
 use Rattle.amounts.proofs.Tests.{below}
 use Rattle.amounts.specs.declared.settings.Settings.{Settings}
-use Rattle.queue.specs.Queue as queue
-use Rattle.queue.specs.Queue.{times, Whole, Removed}
+use Rattle.queue.specs.Queue.{Whole, Removed}
 use Rattle.queue.proofs.Callers as callers
-use Rattle.method.specs.Shelf.{Kept, none, kept, Shelf, sum, bytes, files, NotLower, Found, nothing, at, lowest, Each}
+use Rattle.method.specs.Shelf.{Kept, none, kept, Shelf, bytes, files, NotLower, Found, nothing, at, lowest}
 use Rattle.method.specs.Method as method
 use Rattle.method.specs.Method.{Gone, beside, fits}
 use Rattle.method.specs.Promise.{Apart}
@@ -19,7 +18,6 @@ use Rattle.method.proofs.Shelves.{lowest-is, kept-lt, sum-set-eq, files-le}
 use Rattle.method.proofs.Sound.{apart-none}
 use Rattle.tables.specs.Tables.{Tables, recordAt, shelfOf}
 use Rattle.tables.specs.Tally.{storeOf}
-use Rattle.tables.specs.Sound.{At}
 use Rattle.shelving.specs.Taking.{Aside, stop, first, aside}
 use Rattle.shelving.specs.Live.{Live}
 use Rattle.shelving.specs.Room.{roomFor, firstKey, firstSize, Popped, none, more}

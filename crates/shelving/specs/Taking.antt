@@ -5,7 +5,7 @@ use Prim.Native.Nat.{ℕ, zero, suc}
 use lib.Dec.{ltb}
 use lib.ListN.{set}
 use Rattle.amounts.specs.Limits.{pick}
-use Rattle.method.specs.Shelf.{Kept, none, Shelf, Found, nothing, at, lowest}
+use Rattle.method.specs.Shelf.{Kept, none, Shelf, nothing, at, lowest}
 use Rattle.method.specs.Method.{Settings, Gone, beside, fits}
 
 -- whether the newcomer would be taken itself, and what is set aside until then

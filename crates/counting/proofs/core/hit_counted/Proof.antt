@@ -1,5 +1,4 @@
 -- `counting::core::hit_counted` meets its contract. Assumes nothing.
-use native.Mathlib.Omega.{arith}
 use borrow.Author.Needs.{needs}
 use Rattle.tables.specs.Tally.{totalsOf}
 use Rattle.counting.specs.Counting.{hitTotals}

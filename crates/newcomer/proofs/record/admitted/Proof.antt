@@ -1,12 +1,11 @@
 -- `newcomer::record::admitted` meets its contract. Assumes nothing.
-use mathlib.Core.Path.{_≡_}
 use Prim.Native.Nat.{ℕ, _+_}
 use borrow.Author.Needs.{needs}
 use Rattle.tables.specs.Tally.{totalsOf}
 use Rattle.tables.specs.declared.tally.Tally.{Tally}
 use Rattle.shelving.specs.declared.room.Room.{Room}
-use Rattle.counting.specs.Counting.{tallied, admitTally}
-use Rattle.newcomer.specs.Newcomer.{goneFor, admittedTally}
+use Rattle.counting.specs.Counting.{tallied}
+use Rattle.newcomer.specs.Newcomer.{goneFor}
 use Rattle.newcomer.proofs.record.admitted.Statement.{statement}
 use Rattle.newcomer.proofs.record.admitted.Tie as tie
 
