@@ -1,6 +1,6 @@
 -- The walk, once, of every function of the form `fn f(a: Tally, n: Bytes, m: Cost) -> Tally { let mut t = a; g(&mut t, n, m); t }`.
 -- f meets its contract where g meets the contract of the same claims over the lent tally.
--- The local is lent for a lifetime that is made for the call, and taken back at the last value that g says. Asks and Says are the claims, as in `LentWalk.antt`. Assumes nothing.
+-- The local is lent for a lifetime that is made for the call, and taken back at the last value that g says. The claims are those of `LentWalk.antt`. Assumes nothing.
 use mathlib.Core.Path.{_≡_, refl, sym, ap, subst}
 use lib.Dec.{T as Holds}
 use Prim.Native.Nat.{ℕ}
@@ -11,7 +11,10 @@ use mir.Syntax.{Name, Fn, named, erased, local, valueLocal, memorySlot, tyUnit, 
 use mir.Val.{Val, vptr, hasTy, WT}
 use base.Logic.{SProp, ent, sep, emp, id⊢}
 use base.Fml.{GName, ftrue, fsep, fat, flft, flent}
-use prog.Wp.{Heap, Calls, Loops, WpFn, Tables}
+use prog.Wp.{Heap, Calls, Loops, WpFn, Tables, Closed}
+use prog.Model.{Model}
+use prog.Routine.{Routine, Env}
+use contract.Running.{GhostRules, Running, givenOf, tables, tablesOf}
 use ghost.Atoms.{Atoms, sem}
 use contract.Monad.{fact}
 use types.Kit.{Given, ‵, raw, _⊛_, some, later, _$_, _∵_, !, qed, by, move, keep, use1, use2, use3, split, join, pick, fsplit, fjoin, fpick, fpack, feqL, suffices, frame, await, done}
@@ -33,6 +36,7 @@ use denote.Triple.Call.{calls-at}
 use denote.Triple.Clauses.{Clauses, closing, ensured, lasts}
 use denote.Triple.Entry.{onEntry}
 use denote.Triple.Spec.{Meets, tripleOf}
+use denote.Triple.Table.{entered, cited}
 use denote.Triple.Walked.{says, needs, Stays, stay-none, walkOf, AllGo, goes-none, Walks, ends-at, walked, walk-meets}
 use denote.Exit.{yes}
 use Rattle.amounts.specs.declared.bytes.Bytes.{Bytes}
@@ -44,7 +48,7 @@ use Rattle.amounts.proofs.cost.Cost as D
 use Rattle.amounts.proofs.cost.Cost.Laws as D′
 use Rattle.tables.proofs.tally.Tally as T
 use Rattle.tables.proofs.tally.Tally.Laws as T′
-use Rattle.counting.proofs.LentWalk.{vals, vn, vm, tally-typed, bytes-typed, cost-typed, owns-both, lent-clauses, value-clauses}
+use Rattle.counting.proofs.LentWalk.{Asks, Says, vals, vn, vm, tally-typed, bytes-typed, cost-typed, owns-both, lent-clauses, value-clauses}
 use Rattle.counting.proofs.lent.count_hit as callee
 use Rattle.counting.proofs.core.hit_counted as self
 
@@ -84,11 +88,11 @@ module _ {M : Type 1} (𝓤 : URA M) (H : Heap 𝓤) (A : Atoms 𝓤) (W : Given
       qed W (‵ (partAt T.the-row fullShare h b o) ∷ []) ∵ fpick ! (λ vs. fsplit ! $ spelt ! T.the-row (Is T.the-row) (shows 𝓤 H A T.the-row) vals (LL.tells T.the-type T′.the-laws) fullShare h vs b o $
       use1 W (‵ (fat fullShare T′.mir b o (vt h))) (W .laws .raw-at fullShare T′.mir b o (vt h)) $ frame ! $ done !)
 
-module _ (Asks : Tally → Bytes → Cost → Type 0) (Says : Tally → Bytes → Cost → Tally → Type 0) (g : Name) where
+module _ (count : Tally → ℕ → ℕ → Tally) (g : Name) where
   module _ {M : Type 1} (𝓤 : URA M) (H : Heap 𝓤) (A : Atoms 𝓤) where
     -- the contract that the proof cites
     abbrev pub Callee : Contract 𝓤
-    Callee = tripleOf 𝓤 H A callee.signature (closing 𝓤 H A callee.ended (lent-clauses Asks Says g 𝓤))
+    Callee = tripleOf 𝓤 H A callee.signature (closing 𝓤 H A callee.ended (lent-clauses count g 𝓤))
 
   module _ {M : Type 1} (𝓤 : URA M) (H : Heap 𝓤) (A : Atoms 𝓤) (W : Given 𝓤 H A)
       (h : Tally) (n : Bytes) (m : Cost) (h-is : Is T.the-row h (vt h ∷ [])) (n-is : Is B.the-row n (vn n ∷ [])) (m-is : Is D.the-row m (vm m ∷ [])) where
@@ -102,11 +106,11 @@ module _ (Asks : Tally → Bytes → Cost → Type 0) (Says : Tally → Bytes �
     at = (vt h ∷ [], (vn n ∷ [], (vm m ∷ [], tt)))
 
     abbrev Post : Val → SProp 𝓤
-    Post = walkOf 𝓤 H A self.ended stayed (value-clauses Asks Says g 𝓤) .post ((tt, tt, tt, x, at), tt)
+    Post = walkOf 𝓤 H A self.ended stayed (value-clauses count g 𝓤) .post ((tt, tt, tt, x, at), tt)
 
-    exits : (r : Tally) → Says h n m r → Is T.the-row r (vt r ∷ []) → ent 𝓤 (emp 𝓤) (Post (vt r))
+    exits : (r : Tally) → Says count g h n m r → Is T.the-row r (vt r ∷ []) → ent 𝓤 (emp 𝓤) (Post (vt r))
     exits r e r-is =
-        qed W [] ∵ suffices ! _ (ends-at 𝓤 H A self.ended stayed (value-clauses Asks Says g 𝓤) W ((tt, tt, tt, x, at), tt) (vt r) r (tt, (tt, (tt, tt))) (tt, (tt, (tt, tt)))) $ says ! e $
+        qed W [] ∵ suffices ! _ (ends-at 𝓤 H A self.ended stayed (value-clauses count g 𝓤) W ((tt, tt, tt, x, at), tt) (vt r) r (tt, (tt, (tt, tt))) (tt, (tt, (tt, tt)))) $ says ! e $
         owns-both W n m n-is m-is $ owned ! T.the-row (Is T.the-row) (LL.makes T.the-type T′.the-plain 𝓤 H A) h _ h-is $ fjoin ! $
         owned ! T.the-row (Is T.the-row) (LL.makes T.the-type T′.the-plain 𝓤 H A) r _ r-is $ move ! (1 ∷ 0 ∷ []) $ nothing ! $ done !
 
@@ -141,11 +145,11 @@ module _ (Asks : Tally → Bytes → Cost → Type 0) (Says : Tally → Bytes �
           calls-at ! fm (Callee 𝓤 H A) known (to-callee α l₄ δ)
           (and-then ! (load ! (from ! (stop !)) (look ! 2 refl)) (and-then ! (load ! (from ! (stop !)) (look ! 9 refl)) (and-then ! (load ! (from ! (stop !)) (look ! 7 refl)) (no-more !)))) (λ v.
           use1 W (later (some (λ (u : Unit {0}). ((‵ (flft (α ∷ []) fullShare) ⊛ ‵ ftrue) ⊛ ‵ (unit .own u (v ∷ [])))
-          ⊛ raw (ensured 𝓤 H A callee.ended (lent-clauses Asks Says g 𝓤) (α ∷ [], tt) (ref l₄ δ, (n, (m, tt))) tt u)))) (id⊢ 𝓤 _) $ await ! tt $ pick ! (λ u.
+          ⊛ raw (ensured 𝓤 H A callee.ended (lent-clauses count g 𝓤) (α ∷ [], tt) (ref l₄ δ, (n, (m, tt))) tt u)))) (id⊢ 𝓤 _) $ await ! tt $ pick ! (λ u.
           split ! $ move ! (1 ∷ []) $
-          use1 W (some (λ (ws : Tally × (Unit {0} × (Unit {0} × Unit {0}))). ‵ (lasts callee.ended (α ∷ [], tt) (ref l₄ δ, (n, (m, tt))) ws) ⊛ raw (fact 𝓤 (Says h n m (ws .0))))) (id⊢ 𝓤 _) $
+          use1 W (some (λ (ws : Tally × (Unit {0} × (Unit {0} × Unit {0}))). ‵ (lasts callee.ended (α ∷ [], tt) (ref l₄ δ, (n, (m, tt))) ws) ⊛ raw (fact 𝓤 (Says count g h n m (ws .0))))) (id⊢ 𝓤 _) $
           pick ! (λ ws.
-          split ! $ move ! (1 ∷ []) $ heard ! (Says h n m (ws .0)) (λ e. fsplit ! $
+          split ! $ move ! (1 ∷ []) $ heard ! (Says count g h n m (ws .0)) (λ e. fsplit ! $
           -- [the last tally; …; the token and the result; the lender's part; _6; …]
           move ! (2 ∷ []) $ split ! $ move ! (1 ∷ []) $ feqL ! (λ w.
           land ! (from ! (stop !)) (init ! 6 refl (subst (λ (y : Val). Holds (hasTy tyUnit y) × WT y) (sym (ap only w)) (tt, tt))) $
@@ -161,8 +165,8 @@ module _ (Asks : Tally → Bytes → Cost → Type 0) (Says : Tally → Bytes �
           keep ! [] $ by ! (exits (ws .0) e r-is))))))))))))))))
 
   module _ {M : Type 1} (𝓤 : URA M) (H : Heap 𝓤) (A : Atoms 𝓤) (W : Given 𝓤 H A) where
-    lends-walks : (C : Calls 𝓤 H) (Λ : Loops 𝓤 H) → FmC 𝓤 H (W .laws) C → Triple 𝓤 (C g) (Callee 𝓤 H A) → Walks 𝓤 H A self.ended stayed (WpFn 𝓤 H C Λ (lends g)) (value-clauses Asks Says g 𝓤)
-    lends-walks C Λ fm known = walked 𝓤 H A self.ended stayed (value-clauses Asks Says g 𝓤) (WpFn 𝓤 H C Λ (lends g))
+    lends-walks : (C : Calls 𝓤 H) (Λ : Loops 𝓤 H) → FmC 𝓤 H (W .laws) C → Triple 𝓤 (C g) (Callee 𝓤 H A) → Walks 𝓤 H A self.ended stayed (WpFn 𝓤 H C Λ (lends g)) (value-clauses count g 𝓤)
+    lends-walks C Λ fm known = walked 𝓤 H A self.ended stayed (value-clauses count g 𝓤) (WpFn 𝓤 H C Λ (lends g))
         (λ κs. (LL.vals T.the-type T′.the-laws, (LL.vals B.the-type B′.the-laws, (LL.vals D.the-type D′.the-laws, tt))))
         (λ κs. (LL.tells T.the-type T′.the-laws, (LL.tells B.the-type B′.the-laws, (LL.tells D.the-type D′.the-laws, tt))))
         (λ κs qs bounds a _ are. needs 𝓤 (Asks (a .0) (a .1 .0) (a .1 .1 .0)) _ (λ asked.
@@ -171,9 +175,22 @@ module _ (Asks : Tally → Bytes → Cost → Type 0) (Says : Tally → Bytes �
     goes : AllGo 𝓤 H A W 0 (self.signature .params) (self.ended .kept) stayed
     goes = (goes-none 𝓤 H A W 0 (λ _. T.the-row) yes (λ κs x f. refl), (goes-none 𝓤 H A W 0 (λ _. B.the-row) yes (λ κs x f. refl), (goes-none 𝓤 H A W 0 (λ _. D.the-row) yes (λ κs x f. refl), tt)))
 
-  -- c is the contract that f has: where it is not that of the claims, the equation says in what
-  pub lends-meets : {M : Type 1} (𝓤 : URA M) (H : Heap 𝓤) (A : Atoms 𝓤) → Given 𝓤 H A → (𝓣 : Tables 𝓤 H) (c : Clauses 𝓤 self.ended) → value-clauses Asks Says g 𝓤 ≡ c → Triple 𝓤 (𝓣 .C g) (Callee 𝓤 H A)
-      → Meets 𝓤 H A self.signature (WpFn 𝓤 H (𝓣 .C) (𝓣 .Λ) (lends g)) (closing 𝓤 H A self.ended c)
-  lends-meets 𝓤 H A W 𝓣 c is known = subst (λ (d : Clauses 𝓤 self.ended). Meets 𝓤 H A self.signature (WpFn 𝓤 H (𝓣 .C) (𝓣 .Λ) (lends g)) (closing 𝓤 H A self.ended d)) is
-      (walk-meets 𝓤 H A self.ended stayed W (goes 𝓤 H A W) (value-clauses Asks Says g 𝓤) (WpFn 𝓤 H (𝓣 .C) (𝓣 .Λ) (lends g))
-      (WpFn-mono 𝓤 H (W .laws) 𝓣 (lends g)) (lends-walks 𝓤 H A W (𝓣 .C) (𝓣 .Λ) (fmOf 𝓤 H (W .laws) 𝓣) known))
+  module _ {M : Type 1} (𝓤 : URA M) (H : Heap 𝓤) (𝓜 : Model 𝓤 H) (𝓖 : GhostRules 𝓤 H) (𝓡 : Running 𝓤 H 𝓜) where
+    abbrev Meet : Clauses 𝓤 self.ended → Tables 𝓤 H → Type 1
+    Meet c 𝓣 = Meets 𝓤 H (𝓖 .A) self.signature (WpFn 𝓤 H (𝓣 .C) (𝓣 .Λ) (lends g)) (closing 𝓤 H (𝓖 .A) self.ended c)
+
+    lends-meets : (𝓣 : Tables 𝓤 H) → Triple 𝓤 (𝓣 .C g) (Callee 𝓤 H (𝓖 .A)) → Meet (value-clauses count g 𝓤) 𝓣
+    lends-meets 𝓣 known =
+        let W = givenOf 𝓤 H 𝓜 𝓖 in
+        walk-meets 𝓤 H (𝓖 .A) self.ended stayed W (goes 𝓤 H (𝓖 .A) W) (value-clauses count g 𝓤) (WpFn 𝓤 H (𝓣 .C) (𝓣 .Λ) (lends g))
+        (WpFn-mono 𝓤 H (W .laws) 𝓣 (lends g)) (lends-walks 𝓤 H (𝓖 .A) W (𝓣 .C) (𝓣 .Λ) (fmOf 𝓤 H (W .laws) 𝓣) known)
+
+    -- as `lent-runs` of `LentWalk.antt`
+    pub lends-runs : (γ : Env) (k : Name) (r : Routine) → Closed 𝓤 H (tables 𝓤 H 𝓜 𝓡 γ .C) (tables 𝓤 H 𝓜 𝓡 γ .Λ) k (lends g) → γ g ≡ r
+        → (c : Clauses 𝓤 self.ended) → value-clauses count g 𝓤 ≡ c → Triple 𝓤 (𝓡 .run r) (Callee 𝓤 H (𝓖 .A))
+        → Triple 𝓤 (tables 𝓤 H 𝓜 𝓡 γ .C k) (tripleOf 𝓤 H (𝓖 .A) self.signature (closing 𝓤 H (𝓖 .A) self.ended c))
+    unfolding tablesOf
+    lends-runs γ k r closed calls c is met =
+        entered 𝓤 H _ (tables 𝓤 H 𝓜 𝓡 γ .C) (tables 𝓤 H 𝓜 𝓡 γ .Λ) k (lends g) closed
+        (subst (λ (d : Clauses 𝓤 self.ended). Meet d (tablesOf 𝓤 H 𝓜 (tables 𝓤 H 𝓜 𝓡 γ))) is
+        (lends-meets (tablesOf 𝓤 H 𝓜 (tables 𝓤 H 𝓜 𝓡 γ)) (cited 𝓤 H (Callee 𝓤 H (𝓖 .A)) 𝓜 𝓡 γ g r calls met)))

@@ -1,5 +1,5 @@
 -- The walk, once, of every function of the form `fn f(t: &mut Tally, n: Bytes, m: Cost) { *t = g(*t, n, m); }`: f meets its contract where g meets the contract by value of the same claims.
--- Asks and Says are the claims: what f and g ask of the tally, the bytes and the cost, and what they say of the tally after. Assumes nothing.
+-- The claims: what f and g ask of the tally, the bytes and the cost, and that the tally after is the one that `count` makes. Assumes nothing.
 use mathlib.Core.Path.{_≡_, refl, subst}
 use Prim.Native.Nat.{ℕ}
 use lib.Dec.{T as Holds}
@@ -10,7 +10,10 @@ use mir.Syntax.{Name, Fn, named, local, valueLocal, tyUnit, tyRef, mut, place, d
 use mir.Val.{Val, vunit, vptr, hasTy, WT}
 use base.Logic.{SProp, ent, sep, emp, snd∗, exE, id⊢}
 use base.Fml.{GName, Lft, Share, ftrue, flft, fobs, fbor}
-use prog.Wp.{Heap, Calls, Loops, WpFn, Tables}
+use prog.Wp.{Heap, Calls, Loops, WpFn, Tables, Closed}
+use prog.Model.{Model}
+use prog.Routine.{Routine, Env}
+use contract.Running.{GhostRules, Running, givenOf, tables, tablesOf}
 use ghost.Atoms.{Atoms, sem}
 use contract.Monad.{fact}
 use types.Kit.{Given, Item, mean, Goal, Step, Go}
@@ -31,6 +34,7 @@ use denote.Triple.Call.{calls-at}
 use denote.Triple.Clauses.{Clauses, closing, ensured, lasts}
 use denote.Triple.Entry.{onEntry}
 use denote.Triple.Spec.{Meets, tripleOf}
+use denote.Triple.Table.{entered, cited}
 use denote.Triple.Walked.{says, needs, Stays, stay-ref, stay-none, walkOf, AllGo, goes-none, goes-ref, Walks, ends-at, walked, walk-meets}
 use denote.Exit.{yes}
 use Rattle.amounts.specs.declared.bytes.Bytes.{Bytes}
@@ -42,6 +46,7 @@ use Rattle.amounts.proofs.cost.Cost as D
 use Rattle.amounts.proofs.cost.Cost.Laws as D′
 use Rattle.tables.proofs.tally.Tally as T
 use Rattle.tables.proofs.tally.Tally.Laws as T′
+use Rattle.counting.specs.Counting.{Countable}
 use Rattle.counting.proofs.core.hit_counted as callee
 use Rattle.counting.proofs.lent.count_hit as self
 
@@ -96,7 +101,13 @@ module _ {M : Type 1} {𝓤 : URA M} {H : Heap 𝓤} {A : Atoms 𝓤} (W : Given
   pub owns-both : {Γ : List (Item 𝓤)} {G : Goal 𝓤 H} (n : Bytes) (m : Cost) → Is B.the-row n (vn n ∷ []) → Is D.the-row m (vm m ∷ []) → Step (Go {0}) W (Owned n m ∷ Γ) G Γ G
   owns-both n m n-is m-is = use0 W (Owned n m) (owned-both n m n-is m-is)
 
-module _ (Asks : Tally → Bytes → Cost → Type 0) (Says : Tally → Bytes → Cost → Tally → Type 0) (g : Name) where
+abbrev pub Asks : Tally → Bytes → Cost → Type 0
+Asks h n m = Countable h (n .0) (m .0)
+
+module _ (count : Tally → ℕ → ℕ → Tally) (g : Name) where
+  abbrev pub Says : Tally → Bytes → Cost → Tally → Type 0
+  Says h n m r = r ≡ count h (n .0) (m .0)
+
   module _ {M : Type 1} (𝓤 : URA M) where
     -- the contracts of such a function and of its callee
     abbrev pub lent-clauses : Clauses 𝓤 self.ended
@@ -186,9 +197,22 @@ module _ (Asks : Tally → Bytes → Cost → Type 0) (Says : Tally → Bytes �
     goes : AllGo 𝓤 H A W 1 (self.signature .params) (self.ended .kept) stayed
     goes = (goes-ref 𝓤 H A W 1 0 tt (plain (λ _. T.the-row)), (goes-none 𝓤 H A W 1 (λ _. B.the-row) yes (λ κs x f. refl), (goes-none 𝓤 H A W 1 (λ _. D.the-row) yes (λ κs x f. refl), tt)))
 
-  -- c is the contract that f has: where it is not that of the claims, the equation says in what
-  pub lent-meets : {M : Type 1} (𝓤 : URA M) (H : Heap 𝓤) (A : Atoms 𝓤) → Given 𝓤 H A → (𝓣 : Tables 𝓤 H) (c : Clauses 𝓤 self.ended) → lent-clauses 𝓤 ≡ c → Triple 𝓤 (𝓣 .C g) (Callee 𝓤 H A)
-      → Meets 𝓤 H A self.signature (WpFn 𝓤 H (𝓣 .C) (𝓣 .Λ) (lent g)) (closing 𝓤 H A self.ended c)
-  lent-meets 𝓤 H A W 𝓣 c is known = subst (λ (d : Clauses 𝓤 self.ended). Meets 𝓤 H A self.signature (WpFn 𝓤 H (𝓣 .C) (𝓣 .Λ) (lent g)) (closing 𝓤 H A self.ended d)) is
-      (walk-meets 𝓤 H A self.ended stayed W (goes 𝓤 H A W) (lent-clauses 𝓤) (WpFn 𝓤 H (𝓣 .C) (𝓣 .Λ) (lent g))
-      (WpFn-mono 𝓤 H (W .laws) 𝓣 (lent g)) (lent-walks 𝓤 H A W (𝓣 .C) (𝓣 .Λ) (fmOf 𝓤 H (W .laws) 𝓣) known))
+  module _ {M : Type 1} (𝓤 : URA M) (H : Heap 𝓤) (𝓜 : Model 𝓤 H) (𝓖 : GhostRules 𝓤 H) (𝓡 : Running 𝓤 H 𝓜) where
+    abbrev Meet : Clauses 𝓤 self.ended → Tables 𝓤 H → Type 1
+    Meet c 𝓣 = Meets 𝓤 H (𝓖 .A) self.signature (WpFn 𝓤 H (𝓣 .C) (𝓣 .Λ) (lent g)) (closing 𝓤 H (𝓖 .A) self.ended c)
+
+    lent-meets : (𝓣 : Tables 𝓤 H) → Triple 𝓤 (𝓣 .C g) (Callee 𝓤 H (𝓖 .A)) → Meet (lent-clauses 𝓤) 𝓣
+    lent-meets 𝓣 known =
+        let W = givenOf 𝓤 H 𝓜 𝓖 in
+        walk-meets 𝓤 H (𝓖 .A) self.ended stayed W (goes 𝓤 H (𝓖 .A) W) (lent-clauses 𝓤) (WpFn 𝓤 H (𝓣 .C) (𝓣 .Λ) (lent g))
+        (WpFn-mono 𝓤 H (W .laws) 𝓣 (lent g)) (lent-walks 𝓤 H (𝓖 .A) W (𝓣 .C) (𝓣 .Λ) (fmOf 𝓤 H (W .laws) 𝓣) known)
+
+    -- f is k among the functions γ, and its callee is the routine r; c is the contract that f has: where it is not that of the claims, the equation says in what
+    pub lent-runs : (γ : Env) (k : Name) (r : Routine) → Closed 𝓤 H (tables 𝓤 H 𝓜 𝓡 γ .C) (tables 𝓤 H 𝓜 𝓡 γ .Λ) k (lent g) → γ g ≡ r
+        → (c : Clauses 𝓤 self.ended) → lent-clauses 𝓤 ≡ c → Triple 𝓤 (𝓡 .run r) (Callee 𝓤 H (𝓖 .A))
+        → Triple 𝓤 (tables 𝓤 H 𝓜 𝓡 γ .C k) (tripleOf 𝓤 H (𝓖 .A) self.signature (closing 𝓤 H (𝓖 .A) self.ended c))
+    unfolding tablesOf
+    lent-runs γ k r closed calls c is met =
+        entered 𝓤 H _ (tables 𝓤 H 𝓜 𝓡 γ .C) (tables 𝓤 H 𝓜 𝓡 γ .Λ) k (lent g) closed
+        (subst (λ (d : Clauses 𝓤 self.ended). Meet d (tablesOf 𝓤 H 𝓜 (tables 𝓤 H 𝓜 𝓡 γ))) is
+        (lent-meets (tablesOf 𝓤 H 𝓜 (tables 𝓤 H 𝓜 𝓡 γ)) (cited 𝓤 H (Callee 𝓤 H (𝓖 .A)) 𝓜 𝓡 γ g r calls met)))
