@@ -101,23 +101,5 @@ returns c = telling-end _ _ _ _ _ _ _ _ _ (c .before .loop .inv) (c .loop-test .
 
 pub tell-spec : {M : Type 1} → statement M
 tell-spec =
-    tie.close
-    (tie.spec
-    Inv-loop
-    μ-loop
-    loop-holds
-    sub-last
-    mul-wide16
-    shared-slice-read-wide16
-    wide16-requires
-    mul-wide16-2
-    shared-slice-read-wide16-2
-    wide16-requires-2
-    event-requires
-    mul-events
-    slice-write-events
-    add-e
-    loop-less
-    loop-again
-    same-length
-    returns)
+    tie.close (tie.spec Inv-loop μ-loop loop-holds sub-last mul-wide16 shared-slice-read-wide16 wide16-requires mul-wide16-2 shared-slice-read-wide16-2
+    wide16-requires-2 event-requires mul-events slice-write-events add-e loop-less loop-again same-length returns)

@@ -184,33 +184,6 @@ returns c =
 
 pub hit-spec : {M : Type 1} → statement M
 hit-spec =
-    tie.close
-    (tie.spec
-    mul-wide32
-    shared-slice-read-wide32
-    wide32-requires
-    size-requires
-    mul-wide16
-    shared-slice-read-wide16
-    wide16-requires
-    asked-requires
-    mul-wide32-2
-    slice-read-wide32
-    wide32-requires-2
-    again-requires
-    product-requires
-    plus-requires
-    mul-wide16-2
-    slice-read-wide16
-    wide16-requires-2
-    cast-freq
-    mul-freq
-    slice-write-freq
-    rekey-requires
-    with-hit-requires
-    same-length
-    same-length-2
-    same-length-3
-    same-length-4
-    same-length-5
-    returns)
+    tie.close (tie.spec mul-wide32 shared-slice-read-wide32 wide32-requires size-requires mul-wide16 shared-slice-read-wide16 wide16-requires asked-requires
+    mul-wide32-2 slice-read-wide32 wide32-requires-2 again-requires product-requires plus-requires mul-wide16-2 slice-read-wide16 wide16-requires-2 cast-freq
+    mul-freq slice-write-freq rekey-requires with-hit-requires same-length same-length-2 same-length-3 same-length-4 same-length-5 returns)
