@@ -1,16 +1,14 @@
 -- What is popped from the queue is what is set aside on the shelf. Assumes nothing.
 use mathlib.Core.Path.{_≡_, refl, sym, ap, _∙_, subst}
-use mathlib.Core.Logic.{_⊎_, ⊎-elim}
 use mathlib.Core.Bool.{true, false}
 use mathlib.Core.List.{List, [], _∷_, _++_, append-assoc, append-nil}
 use Prim.Native.Nat.{ℕ, zero, suc, _+_, _-_, _≤_, _<_}
 use native.Mathlib.Omega.{arith}
 use lib.ListN.{length, getD, set}
-use Rattle.amounts.proofs.Tests.{below}
 use Rattle.amounts.specs.declared.settings.Settings.{Settings}
 use Rattle.queue.specs.Queue.{Whole, Removed}
 use Rattle.queue.proofs.Callers as callers
-use Rattle.method.specs.Shelf.{Kept, none, kept, Shelf, bytes, files, NotLower, Found, nothing, at, lowest}
+use Rattle.method.specs.Shelf.{Kept, none, kept, Shelf, bytes, files, NotLower, at, lowest}
 use Rattle.method.specs.Method as method
 use Rattle.method.specs.Method.{Gone, beside, fits}
 use Rattle.method.specs.Promise.{Apart}
@@ -22,7 +20,7 @@ use Rattle.shelving.specs.Taking.{Aside, stop, first, aside}
 use Rattle.shelving.specs.Live.{Live}
 use Rattle.shelving.specs.Room.{roomFor, firstKey, firstSize, Popped, none, more}
 use Rattle.shelving.specs.Evicting.{withQueue, goneAt, behind, without}
-use Rattle.shelving.proofs.MakingRoom.{aside-fits, aside-empty, aside-above, aside-more, fewer, test}
+use Rattle.shelving.proofs.MakingRoom.{Turns, by-turns, aside-fits, aside-above, aside-more, fewer}
 use Rattle.shelving.proofs.Lives.{live-queue, removed-kept}
 use Rattle.shelving.proofs.Covers.{Covers, shelf-covered, covers-less}
 
@@ -199,24 +197,9 @@ module _ (s : Settings) (n : ℕ) (t : Tables) (entry : List ℕ) (z limit l₀ 
 
 -- ---- what is left on the shelf is the shelf without what is set aside
 
-abbrev Left : Shelf → Aside → Type 0
-Left x y = y .shelf ≡ without (y .gone) x
-
-left-turn : (c : method.Settings) (z limit n l : ℕ) (x : Shelf) → ((l : ℕ) (x : Shelf) → Left x (aside c z limit n l x)) → fits c (beside z) x ≡ false → (f : Found) → lowest x ≡ f
-    → Left x (aside c z limit (suc n) l x)
+left-turns : (c : method.Settings) (z limit : ℕ) → Turns c z limit (λ n l x y. y .shelf ≡ without (y .gone) x)
 unfolding without
-left-turn c z limit n l x ih u nothing e = rw (aside-empty c z limit n l x u e)
-left-turn c z limit n l x ih u (at i r) e =
-    ⊎-elim
-    (λ a. rw (aside-above c z limit n l x i r u e a))
-    (λ a. rw (aside-more c z limit n l x i r u e a) (ih (r .key) (set x i none)))
-    (below limit (r .key))
+left-turns c z limit = record { start = λ l x. refl; fitting = λ n l x u. refl; empty = λ n l x u e. refl; above = λ n l x i r u e a. refl; onward = λ n l x i r y u e a ih. ih }
 
 pub aside-without : (c : method.Settings) (z limit n l : ℕ) (x : Shelf) → aside c z limit n l x .shelf ≡ without (aside c z limit n l x .gone) x
-unfolding aside without
-aside-without c z limit zero l x = refl
-aside-without c z limit (suc n) l x =
-    ⊎-elim
-    (λ u. rw (aside-fits c z limit n l x u))
-    (λ u. left-turn c z limit n l x (λ l x. aside-without c z limit n l x) u (lowest x) refl)
-    (test (fits c (beside z) x))
+aside-without c z limit n l x = by-turns c z limit _ (left-turns c z limit) n l x
