@@ -1,7 +1,7 @@
 -- The walk, once, of every function of the form `fn f(a: Tally, n: Bytes, m: Cost) -> Tally { let mut t = a; g(&mut t, n, m); t }`.
 -- f meets its contract where g meets the contract of the same claims over the lent tally.
 -- The local is lent for a lifetime that is made for the call, and taken back at the last value that g says. The claims are those of `LentWalk.antt`. Assumes nothing.
-use mathlib.Core.Path.{_≡_, refl, sym, ap, subst}
+use mathlib.Core.Path.{refl, sym, ap, subst}
 use lib.Dec.{T as Holds}
 use Prim.Native.Nat.{ℕ}
 use mathlib.Core.List.{[], _∷_, List}
@@ -11,17 +11,16 @@ use mir.Syntax.{Name, Fn, named, erased, local, valueLocal, memorySlot, tyUnit, 
 use mir.Val.{Val, vptr, hasTy, WT}
 use base.Logic.{SProp, ent, sep, emp, id⊢}
 use base.Fml.{GName, ftrue, fsep, fat, flft, flent}
-use prog.Wp.{Heap, Calls, Loops, WpFn, Tables, Closed}
+use prog.Wp.{Heap, Calls, Loops, WpFn}
 use prog.Model.{Model}
-use prog.Routine.{Routine, Env}
-use contract.Running.{GhostRules, Running, givenOf, tables, tablesOf}
+use contract.Running.{GhostRules, Running, givenOf}
 use ghost.Atoms.{Atoms, sem}
 use contract.Monad.{fact}
 use types.Kit.{Given, ‵, raw, _⊛_, some, later, _$_, _∵_, !, qed, by, move, keep, use1, use2, use3, split, join, pick, fsplit, fjoin, fpick, fpack, feqL, suffices, frame, await, done}
 use types.Run.{look, init, forget, stop, from, load, addr, and-then, no-more, of-opd, assigns, land, returns, enter, alloc1, alloc0, params1, pass1, pass0, free1, free0}
 use types.SemTy.{Body}
 use types.Tokens.{lft-new, lft-end}
-use sound.WpLaws.{FmC, fmOf, WpFn-mono}
+use sound.WpLaws.{FmC}
 use denote.RattleType.{owns}
 use denote.Laws.{Is, shows}
 use denote.Memory.{mem, pointee, cellAt, partAt, partOf}
@@ -33,12 +32,12 @@ use denote.Struct.Steps.{spelt}
 use denote.Struct.Laws as LL
 use denote.Triple.Statement.{Contract, Triple}
 use denote.Triple.Call.{calls-at}
-use denote.Triple.Clauses.{Clauses, closing, ensured, lasts}
+use denote.Triple.Clauses.{closing, ensured, lasts}
 use denote.Triple.Entry.{onEntry}
-use denote.Triple.Spec.{Meets, tripleOf}
-use denote.Triple.Table.{entered, cited}
-use denote.Triple.Walked.{says, needs, Stays, stay-none, walkOf, AllGo, goes-none, Walks, ends-at, walked, walk-meets}
+use denote.Triple.Spec.{tripleOf}
+use denote.Triple.Walked.{says, needs, Stays, stay-none, walkOf, AllGo, goes-none, Walks, ends-at, walked}
 use denote.Exit.{yes}
+use Rattle.counting.proofs.Citing.{Runs, runs}
 use Rattle.amounts.specs.declared.bytes.Bytes.{Bytes}
 use Rattle.amounts.specs.declared.cost.Cost.{Cost}
 use Rattle.tables.specs.declared.tally.Tally.{Tally}
@@ -175,22 +174,7 @@ module _ (count : Tally → ℕ → ℕ → Tally) (g : Name) where
     goes : AllGo 𝓤 H A W 0 (self.signature .params) (self.ended .kept) stayed
     goes = (goes-none 𝓤 H A W 0 (λ _. T.the-row) yes (λ κs x f. refl), (goes-none 𝓤 H A W 0 (λ _. B.the-row) yes (λ κs x f. refl), (goes-none 𝓤 H A W 0 (λ _. D.the-row) yes (λ κs x f. refl), tt)))
 
-  module _ {M : Type 1} (𝓤 : URA M) (H : Heap 𝓤) (𝓜 : Model 𝓤 H) (𝓖 : GhostRules 𝓤 H) (𝓡 : Running 𝓤 H 𝓜) where
-    abbrev Meet : Clauses 𝓤 self.ended → Tables 𝓤 H → Type 1
-    Meet c 𝓣 = Meets 𝓤 H (𝓖 .A) self.signature (WpFn 𝓤 H (𝓣 .C) (𝓣 .Λ) (lends g)) (closing 𝓤 H (𝓖 .A) self.ended c)
-
-    lends-meets : (𝓣 : Tables 𝓤 H) → Triple 𝓤 (𝓣 .C g) (Callee 𝓤 H (𝓖 .A)) → Meet (value-clauses count g 𝓤) 𝓣
-    lends-meets 𝓣 known =
-        let W = givenOf 𝓤 H 𝓜 𝓖 in
-        walk-meets 𝓤 H (𝓖 .A) self.ended stayed W (goes 𝓤 H (𝓖 .A) W) (value-clauses count g 𝓤) (WpFn 𝓤 H (𝓣 .C) (𝓣 .Λ) (lends g))
-        (WpFn-mono 𝓤 H (W .laws) 𝓣 (lends g)) (lends-walks 𝓤 H (𝓖 .A) W (𝓣 .C) (𝓣 .Λ) (fmOf 𝓤 H (W .laws) 𝓣) known)
-
-    -- as `lent-runs` of `LentWalk.antt`
-    pub lends-runs : (γ : Env) (k : Name) (r : Routine) → Closed 𝓤 H (tables 𝓤 H 𝓜 𝓡 γ .C) (tables 𝓤 H 𝓜 𝓡 γ .Λ) k (lends g) → γ g ≡ r
-        → (c : Clauses 𝓤 self.ended) → value-clauses count g 𝓤 ≡ c → Triple 𝓤 (𝓡 .run r) (Callee 𝓤 H (𝓖 .A))
-        → Triple 𝓤 (tables 𝓤 H 𝓜 𝓡 γ .C k) (tripleOf 𝓤 H (𝓖 .A) self.signature (closing 𝓤 H (𝓖 .A) self.ended c))
-    unfolding tablesOf
-    lends-runs γ k r closed calls c is met =
-        entered 𝓤 H _ (tables 𝓤 H 𝓜 𝓡 γ .C) (tables 𝓤 H 𝓜 𝓡 γ .Λ) k (lends g) closed
-        (subst (λ (d : Clauses 𝓤 self.ended). Meet d (tablesOf 𝓤 H 𝓜 (tables 𝓤 H 𝓜 𝓡 γ))) is
-        (lends-meets (tablesOf 𝓤 H 𝓜 (tables 𝓤 H 𝓜 𝓡 γ)) (cited 𝓤 H (Callee 𝓤 H (𝓖 .A)) 𝓜 𝓡 γ g r calls met)))
+  pub lends-runs : {M : Type 1} (𝓤 : URA M) (H : Heap 𝓤) (𝓜 : Model 𝓤 H) (𝓖 : GhostRules 𝓤 H) (𝓡 : Running 𝓤 H 𝓜) → Runs self.ended (lends g) g 𝓤 H 𝓜 𝓖 𝓡 (value-clauses count g 𝓤) (Callee 𝓤 H (𝓖 .A))
+  lends-runs 𝓤 H 𝓜 𝓖 𝓡 =
+      let W = givenOf 𝓤 H 𝓜 𝓖 in
+      runs self.ended stayed (lends g) g 𝓤 H 𝓜 𝓖 𝓡 (value-clauses count g 𝓤) (Callee 𝓤 H (𝓖 .A)) (goes 𝓤 H (𝓖 .A) W) (lends-walks 𝓤 H (𝓖 .A) W)

@@ -1,6 +1,6 @@
 -- The walk, once, of every function of the form `fn f(t: &mut Tally, n: Bytes, m: Cost) { *t = g(*t, n, m); }`: f meets its contract where g meets the contract by value of the same claims.
 -- The claims: what f and g ask of the tally, the bytes and the cost, and that the tally after is the one that `count` makes. Assumes nothing.
-use mathlib.Core.Path.{_≡_, refl, subst}
+use mathlib.Core.Path.{_≡_, refl}
 use Prim.Native.Nat.{ℕ}
 use lib.Dec.{T as Holds}
 use mathlib.Core.List.{[], _∷_, List}
@@ -10,17 +10,16 @@ use mir.Syntax.{Name, Fn, named, local, valueLocal, tyUnit, tyRef, mut, place, d
 use mir.Val.{Val, vunit, vptr, hasTy, WT}
 use base.Logic.{SProp, ent, sep, emp, snd∗, exE, id⊢}
 use base.Fml.{GName, Lft, Share, ftrue, flft, fobs, fbor}
-use prog.Wp.{Heap, Calls, Loops, WpFn, Tables, Closed}
+use prog.Wp.{Heap, Calls, Loops, WpFn}
 use prog.Model.{Model}
-use prog.Routine.{Routine, Env}
-use contract.Running.{GhostRules, Running, givenOf, tables, tablesOf}
+use contract.Running.{GhostRules, Running, givenOf}
 use ghost.Atoms.{Atoms, sem}
 use contract.Monad.{fact}
 use types.Kit.{Given, Item, mean, Goal, Step, Go}
 use types.Kit.{‵, raw, _⊛_, some, later, _$_, _∵_, !, qed, by, move, keep, drop, use0, use1, use2, split, join, pick, fsplit, fsplit3, fjoin, fjoin3, feqI, suffices, frame, await, done}
 use types.Run.{look, look-raw, init, store-raw, forget, stop, hop, from, load, unit-lit, and-then, no-more, of-opd, assigns, land, returns, enter, alloc1, alloc0, params1, pass1, pass0, free1, free0}
 use types.SemTy.{Body}
-use sound.WpLaws.{FmC, fmOf, WpFn-mono}
+use sound.WpLaws.{FmC}
 use denote.RattleType.{owns}
 use denote.Laws.{Is, shows}
 use denote.Memory.{mem, pointee}
@@ -33,10 +32,10 @@ use denote.Triple.Statement.{Contract, Triple}
 use denote.Triple.Call.{calls-at}
 use denote.Triple.Clauses.{Clauses, closing, ensured, lasts}
 use denote.Triple.Entry.{onEntry}
-use denote.Triple.Spec.{Meets, tripleOf}
-use denote.Triple.Table.{entered, cited}
-use denote.Triple.Walked.{says, needs, Stays, stay-ref, stay-none, walkOf, AllGo, goes-none, goes-ref, Walks, ends-at, walked, walk-meets}
+use denote.Triple.Spec.{tripleOf}
+use denote.Triple.Walked.{says, needs, Stays, stay-ref, stay-none, walkOf, AllGo, goes-none, goes-ref, Walks, ends-at, walked}
 use denote.Exit.{yes}
+use Rattle.counting.proofs.Citing.{Runs, runs}
 use Rattle.amounts.specs.declared.bytes.Bytes.{Bytes}
 use Rattle.amounts.specs.declared.cost.Cost.{Cost}
 use Rattle.tables.specs.declared.tally.Tally.{Tally}
@@ -197,22 +196,7 @@ module _ (count : Tally → ℕ → ℕ → Tally) (g : Name) where
     goes : AllGo 𝓤 H A W 1 (self.signature .params) (self.ended .kept) stayed
     goes = (goes-ref 𝓤 H A W 1 0 tt (plain (λ _. T.the-row)), (goes-none 𝓤 H A W 1 (λ _. B.the-row) yes (λ κs x f. refl), (goes-none 𝓤 H A W 1 (λ _. D.the-row) yes (λ κs x f. refl), tt)))
 
-  module _ {M : Type 1} (𝓤 : URA M) (H : Heap 𝓤) (𝓜 : Model 𝓤 H) (𝓖 : GhostRules 𝓤 H) (𝓡 : Running 𝓤 H 𝓜) where
-    abbrev Meet : Clauses 𝓤 self.ended → Tables 𝓤 H → Type 1
-    Meet c 𝓣 = Meets 𝓤 H (𝓖 .A) self.signature (WpFn 𝓤 H (𝓣 .C) (𝓣 .Λ) (lent g)) (closing 𝓤 H (𝓖 .A) self.ended c)
-
-    lent-meets : (𝓣 : Tables 𝓤 H) → Triple 𝓤 (𝓣 .C g) (Callee 𝓤 H (𝓖 .A)) → Meet (lent-clauses 𝓤) 𝓣
-    lent-meets 𝓣 known =
-        let W = givenOf 𝓤 H 𝓜 𝓖 in
-        walk-meets 𝓤 H (𝓖 .A) self.ended stayed W (goes 𝓤 H (𝓖 .A) W) (lent-clauses 𝓤) (WpFn 𝓤 H (𝓣 .C) (𝓣 .Λ) (lent g))
-        (WpFn-mono 𝓤 H (W .laws) 𝓣 (lent g)) (lent-walks 𝓤 H (𝓖 .A) W (𝓣 .C) (𝓣 .Λ) (fmOf 𝓤 H (W .laws) 𝓣) known)
-
-    -- f is k among the functions γ, and its callee is the routine r; c is the contract that f has: where it is not that of the claims, the equation says in what
-    pub lent-runs : (γ : Env) (k : Name) (r : Routine) → Closed 𝓤 H (tables 𝓤 H 𝓜 𝓡 γ .C) (tables 𝓤 H 𝓜 𝓡 γ .Λ) k (lent g) → γ g ≡ r
-        → (c : Clauses 𝓤 self.ended) → lent-clauses 𝓤 ≡ c → Triple 𝓤 (𝓡 .run r) (Callee 𝓤 H (𝓖 .A))
-        → Triple 𝓤 (tables 𝓤 H 𝓜 𝓡 γ .C k) (tripleOf 𝓤 H (𝓖 .A) self.signature (closing 𝓤 H (𝓖 .A) self.ended c))
-    unfolding tablesOf
-    lent-runs γ k r closed calls c is met =
-        entered 𝓤 H _ (tables 𝓤 H 𝓜 𝓡 γ .C) (tables 𝓤 H 𝓜 𝓡 γ .Λ) k (lent g) closed
-        (subst (λ (d : Clauses 𝓤 self.ended). Meet d (tablesOf 𝓤 H 𝓜 (tables 𝓤 H 𝓜 𝓡 γ))) is
-        (lent-meets (tablesOf 𝓤 H 𝓜 (tables 𝓤 H 𝓜 𝓡 γ)) (cited 𝓤 H (Callee 𝓤 H (𝓖 .A)) 𝓜 𝓡 γ g r calls met)))
+  pub lent-runs : {M : Type 1} (𝓤 : URA M) (H : Heap 𝓤) (𝓜 : Model 𝓤 H) (𝓖 : GhostRules 𝓤 H) (𝓡 : Running 𝓤 H 𝓜) → Runs self.ended (lent g) g 𝓤 H 𝓜 𝓖 𝓡 (lent-clauses 𝓤) (Callee 𝓤 H (𝓖 .A))
+  lent-runs 𝓤 H 𝓜 𝓖 𝓡 =
+      let W = givenOf 𝓤 H 𝓜 𝓖 in
+      runs self.ended stayed (lent g) g 𝓤 H 𝓜 𝓖 𝓡 (lent-clauses 𝓤) (Callee 𝓤 H (𝓖 .A)) (goes 𝓤 H (𝓖 .A) W) (lent-walks 𝓤 H (𝓖 .A) W)

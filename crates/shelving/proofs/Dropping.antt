@@ -17,7 +17,7 @@ use Rattle.tables.specs.Tables.{Tables, Long, recordAt, shelfOf}
 use Rattle.tables.specs.Sound.{At, Occupied}
 use Rattle.tables.proofs.Shelves.{shelf-change, slot-none}
 use Rattle.shelving.specs.Live.{Live, Stack}
-use Rattle.shelving.specs.Evicting.{withQueue, goneAt, behind, without, clearAt, lastPlace, dropLast, dropAll, stackAll, Droppable}
+use Rattle.shelving.specs.Evicting.{withQueue, goneAt, behind, without, clearAt, lastPlace, dropLast, dropAll, stackAll, Droppable, Dropped}
 use Rattle.shelving.proofs.Links.{SameAt, But, at-file, at-place, occupied-there}
 use Rattle.shelving.proofs.Lives as lives
 use Rattle.shelving.proofs.Lives.{live-drop, stack-drop}
@@ -73,7 +73,7 @@ module _ (s : Settings) (n m : ℕ) (t : Tables) (entry : List ℕ) (h : Live s 
   a : At s t (getD (t .file) (lastPlace n t) 0) (lastPlace n t)
   a = h .queued .entries (n - 1) (omega arith)
 
-  dropped : lives.Dropped s n (getD (t .file) (lastPlace n t) 0) (lastPlace n t) t (dropLast n t)
+  dropped : lives.Vacated s n (getD (t .file) (lastPlace n t) 0) (lastPlace n t) t (dropLast n t)
   dropped =
       let p : ℕ = lastPlace n t in
       record {
@@ -223,8 +223,8 @@ falling-more s n m t₀ t u free₀ free i h room is-u =
     })
 
 pub falling-end : (s : Settings) (n m : ℕ) (t₀ t : Tables) (free₀ free : List ℕ) (i : ℕ) → Falling s n m t₀ t free₀ free i → i ≤ m
-    → (t ≡ dropAll (n - m) n t₀) × (free ≡ stackAll (s .places .0) (n - m) n t₀ free₀)
+    → Dropped s n m t₀ free₀ t free
 unfolding dropAll stackAll
 falling-end s n m t₀ t free₀ free i h end =
     let e : 0 ≡ i - m = omega arith in
-    (ap (λ (k : ℕ). dropAll k i t) e ∙ h .lent, ap (λ (k : ℕ). stackAll (s .places .0) k i t free) e ∙ h .stack)
+    record { lent = ap (λ (k : ℕ). dropAll k i t) e ∙ h .lent; stack = ap (λ (k : ℕ). stackAll (s .places .0) k i t free) e ∙ h .stack }

@@ -127,7 +127,7 @@ live-queue s n m m′ t q q′ e e′ h part k w =
 -- ---- a file dropped: the one at the last entry behind the queue
 
 -- place p of file f is left, and the queue's last entry with it
-pub record Dropped (s : Settings) (n f p : ℕ) (t u : Tables) : Type 0 where
+pub record Vacated (s : Settings) (n f p : ℕ) (t u : Tables) : Type 0 where
   pub but : But f p t u
   pub gone : getD (u .place) f 0 ≡ noPlace
   pub zero : Zero u p
@@ -135,7 +135,7 @@ pub record Dropped (s : Settings) (n f p : ℕ) (t u : Tables) : Type 0 where
   pub past : (i : ℕ) → (i ≡ n - 1 → ⊥) → getD (u .queue) i 0 ≡ getD (t .queue) i 0
 
 module _ (s : Settings) (n m f p : ℕ) (t u : Tables) (entry : List ℕ) (h : Live s n m t entry) (room : m < n)
-    (a : At s t f p) (end : getD (t .queue) (n - 1) 0 ≡ p) (d : Dropped s n f p t u) where
+    (a : At s t f p) (end : getD (t .queue) (n - 1) 0 ≡ p) (d : Vacated s n f p t u) where
   -- the place is held nowhere else
   once-last : times p (t .queue) (n - 1) ≡ 0
   once-last =
