@@ -1,4 +1,5 @@
--- The claims of the functions over a tally, and the walks of those that have it lent and of those that lend it.
-pub mod Claims
+-- A tally's sums, and the walks of the functions that have a tally lent and of those that lend one.
+pub mod Sums
+pub mod Citing
 pub mod LentWalk
 pub mod LendsWalk

@@ -13,13 +13,13 @@ pub(crate) fn hit_counted(a: Tally, size: Bytes, cost: Cost) -> Tally
     let mut b = a;
     b.requests = a.requests + 1;
     b.hits = a.hits + 1;
-    let bytes_asked = Bytes(a.bytes_asked.0 + size.0);
+    let bytes_asked = a.bytes_asked.plus(size);
     b.bytes_asked = bytes_asked;
-    let hit_bytes = Bytes(a.hit_bytes.0 + size.0);
+    let hit_bytes = a.hit_bytes.plus(size);
     b.hit_bytes = hit_bytes;
-    let cost_asked = Cost(a.cost_asked.0 + cost.0);
+    let cost_asked = a.cost_asked.plus(cost);
     b.cost_asked = cost_asked;
-    let hit_cost = Cost(a.hit_cost.0 + cost.0);
+    let hit_cost = a.hit_cost.plus(cost);
     b.hit_cost = hit_cost;
     b
 }
@@ -32,9 +32,9 @@ pub(crate) fn pass_counted(a: Tally, size: Bytes, cost: Cost) -> Tally
     let mut b = a;
     b.requests = a.requests + 1;
     b.passed = a.passed + 1;
-    let bytes_asked = Bytes(a.bytes_asked.0 + size.0);
+    let bytes_asked = a.bytes_asked.plus(size);
     b.bytes_asked = bytes_asked;
-    let cost_asked = Cost(a.cost_asked.0 + cost.0);
+    let cost_asked = a.cost_asked.plus(cost);
     b.cost_asked = cost_asked;
     b
 }
@@ -47,9 +47,9 @@ pub(crate) fn admit_counted(a: Tally, size: Bytes, cost: Cost) -> Tally
     let mut b = a;
     b.requests = a.requests + 1;
     b.admitted = a.admitted + 1;
-    let bytes_asked = Bytes(a.bytes_asked.0 + size.0);
+    let bytes_asked = a.bytes_asked.plus(size);
     b.bytes_asked = bytes_asked;
-    let cost_asked = Cost(a.cost_asked.0 + cost.0);
+    let cost_asked = a.cost_asked.plus(cost);
     b.cost_asked = cost_asked;
     b
 }

@@ -16,7 +16,7 @@ ghost use Rattle.shelving.specs.Records.{keptOf};
 fn base(policy: Policy, before: Key, after: Key) -> Key
     ensures { λ r. ⌜ r .0 ≡ baseOf (method.policyOf (policy .0)) (before .0) (after .0) ⌝ }
 {
-    if policy.0 == Policy::SIZE {
+    if policy.without_frequency() {
         return after;
     }
     before
@@ -26,7 +26,7 @@ fn base(policy: Policy, before: Key, after: Key) -> Key
 pub fn limit(policy: Policy, key: Key) -> Key
     ensures { λ r. ⌜ r .0 ≡ limitOf (method.policyOf (policy .0)) (key .0) ⌝ }
 {
-    if policy.0 == Policy::SIZE {
+    if policy.without_frequency() {
         return Key(u64::MAX);
     }
     key

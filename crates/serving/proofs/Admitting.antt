@@ -238,7 +238,7 @@ module _ (a : Tally) (q : Request) (t : Tables) (entry free events : List ℕ) (
     popped-past (more pop pos w full low rm) = let x = popped-past pop in (omega (arith, x .0), λ i b. rm .apart .past i (omega (arith, x .0)) ∙ x .1 i b)
 
     pub room-past : beyondOf (a .settings) (withQueue queue₁ t) ≡ beyondOf (a .settings) t
-    room-past = beyond-queue (a .settings) t queue₁ (drop-same (t .queue) queue₁ (a .«files_kept») (a .settings .places .0) (y .long) (live .few) (popped-past (y .popped) .1))
+    room-past = beyond-queue (a .settings) t queue₁ (drop-same (t .queue) queue₁ (a .«files_kept») (a .settings .places .0) (y .apart .long) (live .few) (popped-past (y .popped) .1))
 
     pub room-stack : Stack (a .settings) (a .«files_kept») (withQueue queue₁ t) free
     room-stack =
@@ -274,12 +274,12 @@ module _ (a : Tally) (q : Request) (t : Tables) (entry free events : List ℕ) (
       passes queue₂ entry₂ events′ v w g is-v last o tl c =
           let u : Tables = withQueue queue₂ t in
           let k : Live (a .settings) (a .«files_kept») (r .left) (withQueue queue₁ t) entry₁ = lowly .live in
-          let past : (i : ℕ) → a .«files_kept» ≤ i → getD queue₂ i 0 ≡ getD (t .queue) i 0 = λ i b. g .past i b ∙ popped-past (y .popped) .1 i b in
+          let past : (i : ℕ) → a .«files_kept» ≤ i → getD queue₂ i 0 ≡ getD (t .queue) i 0 = λ i b. g .apart .past i b ∙ popped-past (y .popped) .1 i b in
           let settled : Live (a .settings) (a .«files_kept») (a .«files_kept») u entry₂ =
           live-same (a .settings) (a .«files_kept») (r .left) (withQueue queue₁ t) u entry₁ entry₂ k refl refl
           (λ p _. record { file = refl; size = refl; cost = refl; freq = refl; key = refl; stamp = refl }) (a .«files_kept») (omega arith)
-          (record { place = k .long .place; file = k .long .file; size = k .long .size; cost = k .long .cost; freq = k .long .freq; key = k .long .key; stamp = k .long .stamp; queue = omega (arith, k .long .queue, g .long) })
-          (g .entry-long) (g .held) (g .past) (g .whole) in
+          (record { place = k .long .place; file = k .long .file; size = k .long .size; cost = k .long .cost; freq = k .long .freq; key = k .long .key; stamp = k .long .stamp; queue = omega (arith, k .long .queue, g .apart .long) })
+          (g .apart .entries) (g .held) (g .apart .past) (g .whole) in
           let stack : Stack (a .settings) (a .«files_kept») u free =
           stack-same (a .settings) (a .«files_kept») (a .«files_kept») t u entry entry live refl refl
           (λ p _. record { file = refl; size = refl; cost = refl; freq = refl; key = refl; stamp = refl }) free (running-stack a t entry free (h .running)) in
@@ -293,7 +293,7 @@ module _ (a : Tally) (q : Request) (t : Tables) (entry free events : List ℕ) (
             count = c;
             live = subst (λ (x : ℕ). Live (a .settings) x x u entry₂) n settled;
             stack = subst (λ (x : ℕ). Stack (a .settings) x u free) n stack;
-            past = beyond-queue (a .settings) t queue₂ (drop-same (t .queue) queue₂ (a .«files_kept») (a .settings .places .0) (g .long ∙ y .long) (live .few) past);
+            past = beyond-queue (a .settings) t queue₂ (drop-same (t .queue) queue₂ (a .«files_kept») (a .settings .places .0) (g .apart .long ∙ y .apart .long) (live .few) past);
           })
 
     -- ---- where there is room: what was set aside is evicted

@@ -1,24 +1,24 @@
 -- Dropping the files behind the queue: what each turn keeps, and what all of them leave. Assumes nothing.
 use mathlib.Core.Path.{_≡_, refl, sym, ap, _∙_, subst}
-use mathlib.Core.Logic.{_⊎_, inl, inr, ⊎-elim}
-use mathlib.Core.List.{List, [], _∷_}
+use mathlib.Core.Logic.{_⊎_, ⊎-elim}
+use mathlib.Core.List.{List}
 use Prim.Native.Nat.{ℕ, zero, suc, _+_, _-_, _≤_, _<_}
 use native.Mathlib.Omega.{arith}
 use lib.ListN.{length, getD, set, length-set}
 use lib.Seq.{getD-set-same, getD-set-other}
-use Rattle.amounts.specs.Limits.{noPlace, placesMost}
+use Rattle.amounts.specs.Limits.{noPlace}
 use Rattle.amounts.specs.declared.settings.Settings.{Settings}
 use Rattle.queue.specs.Queue.{is, times, Whole}
 use Rattle.queue.proofs.Totals.{total-last, total-prefix, is-same}
 use Rattle.queue.proofs.Callers.{whole-record, whole-behind}
-use Rattle.method.specs.Shelf.{none, Shelf}
+use Rattle.method.specs.Shelf.{none}
 use Rattle.method.specs.Method.{Gone}
-use Rattle.tables.specs.Tables.{Tables, Long, recordAt, slotOf, shelfOf}
-use Rattle.tables.specs.Sound.{At, Occupied, Zero}
+use Rattle.tables.specs.Tables.{Tables, Long, recordAt, shelfOf}
+use Rattle.tables.specs.Sound.{At, Occupied}
 use Rattle.tables.proofs.Shelves.{shelf-change, slot-none}
 use Rattle.shelving.specs.Live.{Live, Stack}
-use Rattle.shelving.specs.Evicting.{withQueue, goneAt, behind, without, clearAt, lastPlace, dropLast, dropAll, stackAll, Droppable}
-use Rattle.shelving.proofs.Links.{SameAt, But, at-file, at-place, at-occupied, occupied-there}
+use Rattle.shelving.specs.Evicting.{withQueue, goneAt, behind, without, clearAt, lastPlace, dropLast, dropAll, stackAll, Droppable, Dropped}
+use Rattle.shelving.proofs.Links.{SameAt, But, at-file, at-place, occupied-there}
 use Rattle.shelving.proofs.Lives as lives
 use Rattle.shelving.proofs.Lives.{live-drop, stack-drop}
 use Rattle.shelving.proofs.Popping.{behind-same}
@@ -73,7 +73,7 @@ module _ (s : Settings) (n m : ℕ) (t : Tables) (entry : List ℕ) (h : Live s 
   a : At s t (getD (t .file) (lastPlace n t) 0) (lastPlace n t)
   a = h .queued .entries (n - 1) (omega arith)
 
-  dropped : lives.Dropped s n (getD (t .file) (lastPlace n t) 0) (lastPlace n t) t (dropLast n t)
+  dropped : lives.Vacated s n (getD (t .file) (lastPlace n t) 0) (lastPlace n t) t (dropLast n t)
   dropped =
       let p : ℕ = lastPlace n t in
       record {
@@ -223,8 +223,8 @@ falling-more s n m t₀ t u free₀ free i h room is-u =
     })
 
 pub falling-end : (s : Settings) (n m : ℕ) (t₀ t : Tables) (free₀ free : List ℕ) (i : ℕ) → Falling s n m t₀ t free₀ free i → i ≤ m
-    → (t ≡ dropAll (n - m) n t₀) × (free ≡ stackAll (s .places .0) (n - m) n t₀ free₀)
+    → Dropped s n m t₀ free₀ t free
 unfolding dropAll stackAll
 falling-end s n m t₀ t free₀ free i h end =
     let e : 0 ≡ i - m = omega arith in
-    (ap (λ (k : ℕ). dropAll k i t) e ∙ h .lent, ap (λ (k : ℕ). stackAll (s .places .0) k i t free) e ∙ h .stack)
+    record { lent = ap (λ (k : ℕ). dropAll k i t) e ∙ h .lent; stack = ap (λ (k : ℕ). stackAll (s .places .0) k i t free) e ∙ h .stack }

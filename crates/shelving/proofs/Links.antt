@@ -1,10 +1,9 @@
 -- One file's place changes: what still points at each other, and which places are occupied. Assumes nothing.
-use mathlib.Core.Path.{_≡_, refl, sym, ap, _∙_, subst}
+use mathlib.Core.Path.{_≡_, sym, _∙_, subst}
 use mathlib.Core.Logic.{_⊎_, inl, inr, ⊎-elim}
-use Prim.Native.Nat.{ℕ, _≤_, _<_}
-use native.Mathlib.Omega.{arith}
+use Prim.Native.Nat.{ℕ, _<_}
 use lib.ListN.{getD}
-use Rattle.amounts.specs.Limits.{noPlace, placesMost}
+use Rattle.amounts.specs.Limits.{noPlace}
 use Rattle.amounts.specs.declared.settings.Settings.{Settings}
 use Rattle.amounts.proofs.Tests.{same}
 use Rattle.tables.specs.Tables.{Tables}
@@ -33,7 +32,8 @@ but-sym f p t u b =
           record { file = sym (r .file); size = sym (r .size); cost = sym (r .cost); freq = sym (r .freq); key = sym (r .key); stamp = sym (r .stamp) };
     }
 
-zero-same : (t u : Tables) (k : ℕ) → SameAt t u k → Zero t k → Zero u k
+-- so is a record of 0
+pub zero-same : (t u : Tables) (k : ℕ) → SameAt t u k → Zero t k → Zero u k
 zero-same t u k r z =
     record { file = r .file ∙ z .file; size = r .size ∙ z .size; cost = r .cost ∙ z .cost; freq = r .freq ∙ z .freq; key = r .key ∙ z .key; stamp = r .stamp ∙ z .stamp }
 

@@ -4,18 +4,18 @@ use mathlib.Core.Logic.{_⊎_, inl, inr, ⊎-elim}
 use mathlib.Core.List.{List}
 use Prim.Native.Nat.{ℕ, zero, suc, _+_, _-_, _≤_, _<_}
 use native.Mathlib.Omega.{arith}
-use lib.ListN.{length, getD, set, length-set}
-use lib.Seq.{getD-set-same, getD-set-other}
-use Rattle.amounts.specs.Limits.{noPlace, placesMost}
+use lib.ListN.{length, getD}
+use Rattle.amounts.specs.Limits.{noPlace}
 use Rattle.amounts.specs.declared.settings.Settings.{Settings}
 use Rattle.amounts.proofs.Tests.{same, below}
-use Rattle.queue.specs.Queue.{total, is, times, Whole, Removed, Inserted}
-use Rattle.queue.proofs.Totals.{total-last, total-more, total-same, times-at, times-found, times-none, Found, is-same, is-other}
-use Rattle.queue.proofs.Callers.{whole-record, whole-behind}
+use Rattle.queue.specs.Queue.{total, is, times, Whole, Apart, Removed, Inserted}
+use Rattle.queue.specs.Moves.{Rearranged}
+use Rattle.queue.proofs.Totals.{total-last, total-more, total-prefix, total-same, times-at, times-found, times-none, Found, is-same, is-other}
 use Rattle.tables.specs.Tables.{Tables, Long}
-use Rattle.tables.specs.Sound.{At, Occupied, Zero, Linked, Queued, Spare}
+use Rattle.tables.specs.Sound.{At, Occupied, Zero, Linked}
 use Rattle.shelving.specs.Live.{Live, Stack}
-use Rattle.shelving.proofs.Links.{SameAt, But, at-file, at-place, at-occupied, occupied-there, occupied-back, linked-there}
+use Rattle.shelving.specs.Evicting.{withQueue}
+use Rattle.shelving.proofs.Links.{SameAt, But, zero-same, at-file, at-place, at-occupied, occupied-there, occupied-back, linked-there}
 
 -- ---- what is held among the first n entries, from what is held among the first m
 
@@ -27,6 +27,14 @@ total-past f q r m (suc n) h p e =
     (λ g. let c : total f r n ≡ total f q n = total-past f q r m n (omega arith) p e in let d : getD r n 0 ≡ getD q n 0 = p n (omega arith) in rw (c, d))
     (λ g. let c : m ≡ suc n = omega arith in subst (λ (k : ℕ). total f r k ≡ total f q k) c e)
     (below m (suc n))
+
+-- what the first n entries of r hold, those of q hold
+pub held-found : (q r : List ℕ) (n : ℕ) → ((f : ℕ → ℕ) → total f r n ≡ total f q n) → (i : ℕ) → i < n → Found (getD r i 0) q n
+held-found q r n h i b = times-found (getD r i 0) q n (omega (arith, times-at r i n b, h (is (getD r i 0))))
+
+-- what stands at no entry is not held
+pub unheld : (p : ℕ) (q : List ℕ) (n : ℕ) → (Found p q n → ⊥) → times p q n ≡ 0
+unheld p q n h = ⊎-elim (λ e. e) (λ ne. absurd (h (times-found p q n (omega arith)))) (same (times p q n) 0)
 
 -- ---- the same files at the same places, and the same places in the queue
 
@@ -48,10 +56,7 @@ module _ (s : Settings) (n m : ℕ) (t u : Tables) (entry entry′ : List ℕ) (
   linked-same =
       record {
         out = λ f b. ⊎-elim (λ e. inl (rw places e)) (λ a. inr (at-same f _ (subst (At s t f) (ap (λ (l : List ℕ). getD l f 0) (sym places)) a))) (h .linked .out f b);
-        unused = λ p b no.
-            let z = h .linked .unused p b (λ o. no (occ-same p o)) in
-            let r = records p (λ o. no (occ-same p o)) in
-            record { file = r .file ∙ z .file; size = r .size ∙ z .size; cost = r .cost ∙ z .cost; freq = r .freq ∙ z .freq; key = r .key ∙ z .key; stamp = r .stamp ∙ z .stamp };
+        unused = λ p b no. zero-same t u p (records p (λ o. no (occ-same p o))) (h .linked .unused p b (λ o. no (occ-same p o)));
       }
 
   pub live-same : (m′ : ℕ) → m′ ≤ n → Long (s .places .0) (s .catalogue .0) u → length entry′ ≡ length entry
@@ -68,15 +73,14 @@ module _ (s : Settings) (n m : ℕ) (t u : Tables) (entry entry′ : List ℕ) (
         linked = linked-same;
         queued =
             record {
-              entries = λ i b. entry-at i (times-found (getD (u .queue) i 0) (t .queue) n (omega (arith, times-at (u .queue) i n b, held (is (getD (u .queue) i 0)))));
+              entries = λ i b.
+                  let w = held-found (t .queue) (u .queue) n held i b in
+                  occ-same _ (subst (Occupied s t) (w .is) (h .queued .entries (w .entry) (w .before)));
               once = λ p o. held (is p) ∙ h .queued .once p (occ-back p o);
               rest = λ i a b. past i a ∙ h .queued .rest i a b;
             };
         whole = whole;
       }
-    where
-      entry-at : (i : ℕ) → Found (getD (u .queue) i 0) (t .queue) n → Occupied s u (getD (u .queue) i 0)
-      entry-at i w = occ-same _ (subst (Occupied s t) (w .is) (h .queued .entries (w .entry) (w .before)))
 
   pub stack-same : (free : List ℕ) → Stack s n t free → Stack s n u free
   stack-same free f =
@@ -87,18 +91,43 @@ module _ (s : Settings) (n m : ℕ) (t u : Tables) (entry entry′ : List ℕ) (
 
 -- ---- the queue taken from and put back into: the places that it holds, with those behind it, stay
 
-pub removed-held : (q q′ entry entry′ keys stamps : List ℕ) (m n : ℕ) → 0 < m → m ≤ n → Removed q q′ entry entry′ keys stamps m 0 (getD q 0 0) → (f : ℕ → ℕ) → total f q′ n ≡ total f q n
-removed-held q q′ entry entry′ keys stamps m n pos h r f =
-    total-past f q q′ m n h (r .apart .past) (total-last f q′ m pos ∙ ap (λ (v : ℕ). total f q′ (m - 1) + f v) (r .freed) ∙ r .held f)
+-- what is as it was apart from the first m entries is so apart from the first n
+apart-wider : {q q′ e e′ : List ℕ} {m k : ℕ} (n : ℕ) → m ≤ n → k ≤ n → Apart q q′ e e′ m k → Apart q q′ e e′ n n
+apart-wider {q} {q′} {m = m} n h g a =
+    record {
+      long = a .long;
+      entries = a .entries;
+      past = λ i b. a .past i (omega arith);
+      unheld = λ p z. a .unheld p (omega (arith, total-prefix (is p) q′ m n h));
+    }
 
-pub inserted-held : (q q′ entry entry′ keys stamps : List ℕ) (m n : ℕ) → m < n → Inserted q q′ entry entry′ keys stamps m (getD q m 0) → (f : ℕ → ℕ) → total f q′ n ≡ total f q n
-inserted-held q q′ entry entry′ keys stamps m n h r f =
-    total-past f q q′ (m + 1) n (omega arith) (r .apart .past) (r .held f ∙ sym (total-more f q m))
+pub removed-kept : (q q′ e e′ keys stamps : List ℕ) (m n : ℕ) → 0 < m → m ≤ n → Removed q q′ e e′ keys stamps m 0 (getD q 0 0) → Rearranged q q′ e e′ n
+removed-kept q q′ e e′ keys stamps m n pos h r =
+    record {
+      held = λ f. total-past f q q′ m n h (r .apart .past) (total-last f q′ m pos ∙ ap (λ (v : ℕ). total f q′ (m - 1) + f v) (r .freed) ∙ r .held f);
+      apart = apart-wider n (omega arith) h (r .apart);
+    }
+
+pub inserted-kept : (q q′ e e′ keys stamps : List ℕ) (m n : ℕ) → m < n → Inserted q q′ e e′ keys stamps m (getD q m 0) → Rearranged q q′ e e′ n
+inserted-kept q q′ e e′ keys stamps m n h r =
+    record {
+      held = λ f. total-past f q q′ (m + 1) n (omega arith) (r .apart .past) (r .held f ∙ sym (total-more f q m));
+      apart = apart-wider n (omega arith) (omega arith) (r .apart);
+    }
+
+-- the same tables with a queue of the same places, of which other entries may be set aside
+pub live-queue : (s : Settings) (n m m′ : ℕ) (t : Tables) (q q′ e e′ : List ℕ) → Live s n m (withQueue q t) e → m′ ≤ n → Rearranged q q′ e e′ n
+    → Whole q′ e′ (t .key) (t .stamp) m′ → Live s n m′ (withQueue q′ t) e′
+live-queue s n m m′ t q q′ e e′ h part k w =
+    let l = h .long in
+    live-same s n m (withQueue q t) (withQueue q′ t) e e′ h refl refl (λ p _. record { file = refl; size = refl; cost = refl; freq = refl; key = refl; stamp = refl }) m′ part
+    (record { place = l .place; file = l .file; size = l .size; cost = l .cost; freq = l .freq; key = l .key; stamp = l .stamp; queue = omega (arith, l .queue, k .apart .long) })
+    (k .apart .entries) (k .held) (k .apart .past) w
 
 -- ---- a file dropped: the one at the last entry behind the queue
 
 -- place p of file f is left, and the queue's last entry with it
-pub record Dropped (s : Settings) (n f p : ℕ) (t u : Tables) : Type 0 where
+pub record Vacated (s : Settings) (n f p : ℕ) (t u : Tables) : Type 0 where
   pub but : But f p t u
   pub gone : getD (u .place) f 0 ≡ noPlace
   pub zero : Zero u p
@@ -106,7 +135,7 @@ pub record Dropped (s : Settings) (n f p : ℕ) (t u : Tables) : Type 0 where
   pub past : (i : ℕ) → (i ≡ n - 1 → ⊥) → getD (u .queue) i 0 ≡ getD (t .queue) i 0
 
 module _ (s : Settings) (n m f p : ℕ) (t u : Tables) (entry : List ℕ) (h : Live s n m t entry) (room : m < n)
-    (a : At s t f p) (end : getD (t .queue) (n - 1) 0 ≡ p) (d : Dropped s n f p t u) where
+    (a : At s t f p) (end : getD (t .queue) (n - 1) 0 ≡ p) (d : Vacated s n f p t u) where
   -- the place is held nowhere else
   once-last : times p (t .queue) (n - 1) ≡ 0
   once-last =
@@ -121,18 +150,13 @@ module _ (s : Settings) (n m f p : ℕ) (t u : Tables) (entry : List ℕ) (h : L
 
   not-p : (Occupied s u p → ⊥)
   not-p o =
-      let z : getD (u .file) p 0 ≡ 0 = d .zero .file in
-      free-p (same (getD (u .file) p 0) f) o
-    where
-      free-p : ((getD (u .file) p 0 ≡ f) ⊎ (getD (u .file) p 0 ≡ f → ⊥)) → Occupied s u p → ⊥
-      free-p (inl e) o = omega (arith, o .place, ap (λ (g : ℕ). getD (u .place) g 0) e, d .gone, o .inside, h .places)
-      free-p (inr ne) o =
-          let g : ℕ = getD (u .file) p 0 in
-          let q : getD (t .place) g 0 ≡ p = sym (d .but .places g ne) ∙ o .place in
-          ⊎-elim
-          (λ e. absurd (omega (arith, o .inside, h .places)))
-          (λ b. ne (at-file s t g f p (subst (At s t g) q b) a))
-          (h .linked .out g (o .known))
+      let g : ℕ = getD (u .file) p 0 in
+      ⊎-elim
+      (λ e. omega (arith, o .place, ap (λ (g : ℕ). getD (u .place) g 0) e, d .gone, o .inside, h .places))
+      (λ ne.
+      let q : getD (t .place) g 0 ≡ p = sym (d .but .places g ne) ∙ o .place in
+      ⊎-elim (λ e. omega (arith, o .inside, h .places)) (λ b. ne (at-file s t g f p (subst (At s t g) q b) a)) (h .linked .out g (o .known)))
+      (same g f)
 
   dropped-total : (g : ℕ → ℕ) → total g (u .queue) (n - 1) ≡ total g (t .queue) (n - 1)
   dropped-total g = total-same g g (u .queue) (t .queue) (n - 1) (λ i b. ap g (d .past i (omega arith)))
@@ -145,7 +169,8 @@ module _ (s : Settings) (n m f p : ℕ) (t u : Tables) (entry : List ℕ) (h : L
   pub stack-drop : (free free′ : List ℕ) → Stack s n t free → length free′ ≡ length free → getD free′ (s .places .0 - n) 0 ≡ p
       → ((i : ℕ) → (i ≡ s .places .0 - n → ⊥) → getD free′ i 0 ≡ getD free i 0) → Stack s (n - 1) u free′
   stack-drop free free′ k long top rest =
-      record { long = omega (arith, k .long); spare = record { unused = λ i b. unused i b (same i (s .places .0 - n)); apart = λ i j b c. apart i j b c (same i (s .places .0 - n)) (same j (s .places .0 - n)) } }
+      let end : ℕ = s .places .0 - n in
+      record { long = omega (arith, k .long); spare = record { unused = λ i b. unused i b (same i end); apart = λ i j b c. apart i j b c (same i end) (same j end) } }
     where
       -- what was free before is not p
       old : (i : ℕ) → i + n < s .places .0 → getD free i 0 ≡ p → ⊥
@@ -183,7 +208,9 @@ module _ (s : Settings) (n m f p : ℕ) (t u : Tables) (entry : List ℕ) (h : L
         linked = linked-there s f p t u (d .but) only no-place (h .linked) (inl (d .gone)) (λ g b. at-file s t g f p b a) (λ _ _. d .zero);
         queued =
             record {
-              entries = λ i b. subst (Occupied s u) (sym (d .past i (omega arith))) (occupied-there s f p t u (d .but) only (getD (t .queue) i 0) (h .queued .entries i (omega arith)) (before-last i b));
+              entries = λ i b.
+                  subst (Occupied s u) (sym (d .past i (omega arith)))
+                  (occupied-there s f p t u (d .but) only (getD (t .queue) i 0) (h .queued .entries i (omega arith)) (before-last i b));
               once = λ k o.
                   let ne : k ≡ p → ⊥ = λ q. not-p (subst (Occupied s u) q o) in
                   let w : times k (t .queue) n ≡ 1 = h .queued .once k (occupied-back s f p t u (d .but) only no-place k o ne) in
@@ -211,10 +238,7 @@ module _ (s : Settings) (n f p : ℕ) (t u : Tables) (entry entry′ free : List
   place-in = omega (arith, top, st .spare .unused (s .places .0 - n - 1) (omega arith) .0)
 
   pub place-unheld : times p (t .queue) n ≡ 0
-  place-unheld = ⊎-elim (λ e. e) (λ ne. absurd (found (times-found p (t .queue) n (omega arith)))) (same (times p (t .queue) n) 0)
-    where
-      found : Found p (t .queue) n → ⊥
-      found w = place-free (subst (Occupied s t) (w .is) (h .queued .entries (w .entry) (w .before)))
+  place-unheld = unheld p (t .queue) n (λ w. place-free (subst (Occupied s t) (w .is) (h .queued .entries (w .entry) (w .before))))
 
   nowhere : (k : ℕ) → At s t f k → k ≡ p
   nowhere k b = absurd (omega (arith, b .place, b .inside, out, h .places))
@@ -233,11 +257,9 @@ module _ (s : Settings) (n f p : ℕ) (t u : Tables) (entry entry′ free : List
       (λ e. subst (Occupied s u) (sym e) (at-occupied s u f p a))
       (λ ne.
       let k : ℕ = getD (u .queue) i 0 in
-      found (times-found k (t .queue) n (omega (arith, times-at (u .queue) i (n + 1) b, held (is k), is-other k p ne))))
+      let w = times-found k (t .queue) n (omega (arith, times-at (u .queue) i (n + 1) b, held (is k), is-other k p ne)) in
+      stays k (subst (Occupied s t) (w .is) (h .queued .entries (w .entry) (w .before))))
       (same (getD (u .queue) i 0) p)
-    where
-      found : Found (getD (u .queue) i 0) (t .queue) n → Occupied s u (getD (u .queue) i 0)
-      found w = stays _ (subst (Occupied s t) (w .is) (h .queued .entries (w .entry) (w .before)))
 
   kept-once : (k : ℕ) → Occupied s u k → times k (u .queue) (n + 1) ≡ 1
   kept-once k o = ⊎-elim

@@ -1,24 +1,23 @@
 -- What is set aside is what each policy takes. Assumes nothing.
 use mathlib.Core.Path.{_≡_, refl, sym, ap, _∙_, subst}
 use mathlib.Core.Logic.{_⊎_, inl, inr, ⊎-elim}
-use mathlib.Core.Bool.{Bool, true, false, _||_, _&&_}
+use mathlib.Core.Bool.{Bool, true, false, _||_}
 use mathlib.Core.List.{List, [], _∷_}
 use Prim.Native.Nat.{ℕ, zero, suc, _+_, _≤_, _<_}
 use native.Mathlib.Omega.{arith}
-use lib.Dec.{leb, ltb, eqb}
-use borrow.Author.Tests.{ltb-true, ltb-false, lt-ltb, le-ltb, le-leb, ne-eqb}
+use lib.Dec.{eqb}
+use borrow.Author.Tests.{lt-ltb, le-ltb, le-leb, ne-eqb}
 use lib.ListN.{length, getD, set, length-set}
 use lib.Seq.{getD-set-same, getD-set-other, set-comm}
-use Rattle.amounts.specs.Limits.{pick}
 use Rattle.amounts.specs.Requests.{Request}
 use Rattle.amounts.proofs.Tests.{pick-true, pick-false, same, below}
 use Rattle.amounts.proofs.Ordering.{not-lower, lower-self}
-use Rattle.method.specs.Shelf.{Kept, Slot, none, kept, Shelf, sum, bytes, files, NotLower, Found, nothing, at, lowest, Each}
+use Rattle.method.specs.Shelf.{Kept, none, kept, Shelf, bytes, files, NotLower, Found, nothing, at, lowest, Each}
 use Rattle.method.specs.Method.{Settings, gds, gdsf, Gone, Wanted, fits, beside, among, next, Cleared, also, clear, goes, served, missed, keyed, newcomer, admit}
 use Rattle.method.specs.declared.outcome.Pass.the-variants.{LowKey}
 use Rattle.method.specs.declared.outcome.Outcome.the-variants.{Admitted, Passed}
 use Rattle.method.specs.Promise.{Apart}
-use Rattle.method.proofs.Shelves.{Good, none-kept, is-kept, sum-set, sum-set-eq, sum-none, each-set, at-set, kept-lt, lowest-good, lowest-is, lowest-nothing, not-lower-key}
+use Rattle.method.proofs.Shelves.{Good, none-kept, is-kept, sum-set-eq, sum-none, each-set, kept-lt, lowest-good, lowest-is, not-lower-key}
 use Rattle.method.proofs.Room.{clear-stop, clear-more, sum-empty}
 use Rattle.method.proofs.Sound.{apart-none, apart-put}
 use Rattle.method.proofs.Runs.{goes-here}
@@ -69,6 +68,10 @@ empty-fits c z s a b h =
     let f : files s ≡ 0 = omega arith in
     rw (y, f, le-leb (0 + z) (c .capacity) (omega arith), le-leb (0 + 1) (c .places) (omega arith))
 
+-- the lowest file is kept, and none is lower
+lowest-there : (s : Shelf) (i : ℕ) (r : Kept) → lowest s ≡ at i r → Good s (at i r)
+lowest-there s i r e = subst (Good s) e (lowest-good s)
+
 -- where it does not fit, there is a lowest file
 pub full-lowest : (c : Settings) (z : ℕ) (s : Shelf) → z ≤ c .capacity → 1 ≤ c .places → fits c (beside z) s ≡ false → lowest s ≡ nothing → ⊥
 full-lowest c z s a b h e =
@@ -76,6 +79,36 @@ full-lowest c z s a b h e =
     let t : fits c (beside z) s ≡ true = empty-fits c z s a b (omega (arith, sum-empty (λ r. 1) s g)) in
     let x : true ≡ false = sym t ∙ h in
     let k : _≡_ {A = ℕ} 0 1 = cc in omega arith
+
+-- ---- all turns
+
+-- what holds of what is set aside in n turns from inflation l and the shelf s, if it holds where it stops and each turn keeps it
+pub record Turns (c : Settings) (z limit : ℕ) (P : ℕ → ℕ → Shelf → Aside → Type 0) : Type 0 where
+  pub start : (l : ℕ) (s : Shelf) → P 0 l s (stop false l s)
+  pub fitting : (n l : ℕ) (s : Shelf) → fits c (beside z) s ≡ true → P (suc n) l s (stop false l s)
+  pub empty : (n l : ℕ) (s : Shelf) → fits c (beside z) s ≡ false → lowest s ≡ nothing → P (suc n) l s (stop true l s)
+  pub above : (n l : ℕ) (s : Shelf) (i : ℕ) (r : Kept) → fits c (beside z) s ≡ false → lowest s ≡ at i r → limit < r .key → P (suc n) l s (stop true l s)
+  pub onward : (n l : ℕ) (s : Shelf) (i : ℕ) (r : Kept) (y : Aside) → fits c (beside z) s ≡ false → lowest s ≡ at i r → r .key ≤ limit → P n (r .key) (set s i none) y
+      → P (suc n) l s (first i r y)
+
+module _ (c : Settings) (z limit : ℕ) (P : ℕ → ℕ → Shelf → Aside → Type 0) (t : Turns c z limit P) where
+  turn : (n l : ℕ) (s : Shelf) → ((l : ℕ) (s : Shelf) → P n l s (aside c z limit n l s)) → fits c (beside z) s ≡ false → (f : Found) → lowest s ≡ f
+      → P (suc n) l s (aside c z limit (suc n) l s)
+  turn n l s ih u nothing e = rw (aside-empty c z limit n l s u e) (t .empty n l s u e)
+  turn n l s ih u (at i r) e =
+      ⊎-elim
+      (λ a. rw (aside-above c z limit n l s i r u e a) (t .above n l s i r u e a))
+      (λ a. rw (aside-more c z limit n l s i r u e a) (t .onward n l s i r _ u e a (ih (r .key) (set s i none))))
+      (below limit (r .key))
+
+  pub by-turns : (n l : ℕ) (s : Shelf) → P n l s (aside c z limit n l s)
+  unfolding aside
+  by-turns zero l s = t .start l s
+  by-turns (suc n) l s =
+      ⊎-elim
+      (λ u. rw (aside-fits c z limit n l s u) (t .fitting n l s u))
+      (λ u. turn n l s (λ l s. by-turns n l s) u (lowest s) refl)
+      (test (fits c (beside z) s))
 
 -- ---- policy 1: the limit is above every key
 
@@ -88,24 +121,24 @@ pub record Same (x : Aside) (y : Cleared) : Type 0 where
 same-first : (i : ℕ) (r : Kept) (x : Aside) (y : Cleared) → Same x y → Same (first i r x) (also i r y)
 same-first i r x y h = record { low = h .low; inflation = h .inflation; shelf = h .shelf; gone = ap (λ (gs : List Gone). record { file = i; was = r } ∷ gs) (h .gone) }
 
+same-stop : (l : ℕ) (s : Shelf) → Same (stop false l s) (record { inflation = l; shelf = s; taken = [] })
+same-stop l s = record { low = refl; inflation = refl; shelf = refl; gone = refl }
+
 module _ (c : Settings) (z limit : ℕ) (small : z ≤ c .capacity) (one : 1 ≤ c .places) where
-  clear-turn : (n : ℕ) → ((l : ℕ) (s : Shelf) → Each (λ q. q .key ≤ limit) s → Same (aside c z limit n l s) (clear c (beside z) n l s))
-      → (l : ℕ) (s : Shelf) → Each (λ q. q .key ≤ limit) s → fits c (beside z) s ≡ false → (f : Found) → lowest s ≡ f
-      → Same (aside c z limit (suc n) l s) (clear c (beside z) (suc n) l s)
-  clear-turn n ih l s h u nothing e = absurd (full-lowest c z s small one u e)
-  clear-turn n ih l s h u (at i r) e =
-      let g : Good s (at i r) = subst (Good s) e (lowest-good s) in
-      rw (aside-more c z limit n l s i r u e (h i r (g .0)), clear-more c (beside z) n l s i r (next-full c (beside z) s u ∙ e))
-      (same-first i r _ _ (ih (r .key) (set s i none) (each-set _ s i none (λ q w. none-kept w) h)))
+  clear-turns : Turns c z limit (λ n l s y. Each (λ q. q .key ≤ limit) s → Same y (clear c (beside z) n l s))
+  unfolding clear
+  clear-turns =
+      record {
+        start = λ l s h. same-stop l s;
+        fitting = λ n l s u h. rw (clear-stop c (beside z) n l s (next-fits c (beside z) s u)) (same-stop l s);
+        empty = λ n l s u e h. absurd (full-lowest c z s small one u e);
+        above = λ n l s i r u e a h. absurd (omega (arith, h i r (lowest-there s i r e .0)));
+        onward = λ n l s i r y u e a ih h.
+            rw (clear-more c (beside z) n l s i r (next-full c (beside z) s u ∙ e)) (same-first i r _ _ (ih (each-set _ s i none (λ q w. none-kept w) h)));
+      }
 
   pub aside-clear : (n l : ℕ) (s : Shelf) → Each (λ q. q .key ≤ limit) s → Same (aside c z limit n l s) (clear c (beside z) n l s)
-  unfolding aside clear
-  aside-clear zero l s h = record { low = refl; inflation = refl; shelf = refl; gone = refl }
-  aside-clear (suc n) l s h =
-      ⊎-elim
-      (λ u. rw (aside-fits c z limit n l s u, clear-stop c (beside z) n l s (next-fits c (beside z) s u)) (record { low = refl; inflation = refl; shelf = refl; gone = refl }))
-      (λ u. clear-turn n (λ l s. aside-clear n l s) l s h u (lowest s) refl)
-      (test (fits c (beside z) s))
+  aside-clear n l s h = by-turns c z limit _ clear-turns n l s h
 
 -- ---- policy 2: the limit is the newcomer's key
 
@@ -193,33 +226,24 @@ module _ (c : Settings) (f : ℕ) (k : Kept) where
       }
 
   module _ (small : k .size ≤ c .capacity) (one : 1 ≤ c .places) where
-    with-turn : (n : ℕ) → ((l : ℕ) (s : Shelf) → Newest f k s → Same₂ (aside c (k .size) (k .key) n l s) (clear c among n l (set s f (kept k))))
-        → (l : ℕ) (s : Shelf) → Newest f k s → fits c (beside (k .size)) s ≡ false → (g : Found) → lowest s ≡ g
-        → Same₂ (aside c (k .size) (k .key) (suc n) l s) (clear c among (suc n) l (set s f (kept k)))
-    with-turn n ih l s h u nothing e = absurd (full-lowest c (k .size) s small one u e)
-    with-turn n ih l s h u (at i r) e =
-        let g : Good s (at i r) = subst (Good s) e (lowest-good s) in
-        let full : fits c among (set s f (kept k)) ≡ false = with-fits s h ∙ u in
-        ⊎-elim
-        (λ b.
-        let new : next c among (set s f (kept k)) ≡ at f k =
-        next-full c among (set s f (kept k)) full ∙ with-newcomer s h (λ j q w. omega (arith, not-lower-key r q (g .1 j q w))) in
-        rw (aside-above c (k .size) (k .key) n l s i r u e b, clear-more c among n l (set s f (kept k)) f k new) (taken l s _))
-        (λ b.
-        let old : next c among (set s f (kept k)) ≡ at i r = next-full c among (set s f (kept k)) full ∙ with-lowest s h i r g b in
-        rw (aside-more c (k .size) (k .key) n l s i r u e b, clear-more c among n l (set s f (kept k)) i r old, less-with s h i r (g .0))
-        (more i r (other s h i r (g .0)) _ _ (ih (r .key) (set s i none) (newest-less s h i r (g .0)))))
-        (below (k .key) (r .key))
+    with-turns : Turns c (k .size) (k .key) (λ n l s y. Newest f k s → Same₂ y (clear c among n l (set s f (kept k))))
+    unfolding clear
+    with-turns =
+        record {
+          start = λ l s h. stopped l s;
+          fitting = λ n l s u h. rw (clear-stop c among n l (set s f (kept k)) (next-fits c among (set s f (kept k)) (with-fits s h ∙ u))) (stopped l s);
+          empty = λ n l s u e h. absurd (full-lowest c (k .size) s small one u e);
+          above = λ n l s i r u e b h.
+              let all = with-newcomer s h (λ j q w. omega (arith, not-lower-key r q (lowest-there s i r e .1 j q w))) in
+              rw (clear-more c among n l (set s f (kept k)) f k (next-full c among (set s f (kept k)) (with-fits s h ∙ u) ∙ all)) (taken l s _);
+          onward = λ n l s i r y u e b ih h.
+              let g = lowest-there s i r e in
+              rw (clear-more c among n l (set s f (kept k)) i r (next-full c among (set s f (kept k)) (with-fits s h ∙ u) ∙ with-lowest s h i r g b), less-with s h i r (g .0))
+              (more i r (other s h i r (g .0)) _ _ (ih (newest-less s h i r (g .0))));
+        }
 
     pub aside-with : (n l : ℕ) (s : Shelf) → Newest f k s → Same₂ (aside c (k .size) (k .key) n l s) (clear c among n l (set s f (kept k)))
-    unfolding aside clear
-    aside-with zero l s h = stopped l s
-    aside-with (suc n) l s h =
-        ⊎-elim
-        (λ u.
-        rw (aside-fits c (k .size) (k .key) n l s u, clear-stop c among n l (set s f (kept k)) (next-fits c among (set s f (kept k)) (with-fits s h ∙ u))) (stopped l s))
-        (λ u. with-turn n (λ l s. aside-with n l s) l s h u (lowest s) refl)
-        (test (fits c (beside (k .size)) s))
+    aside-with n l s h = by-turns c (k .size) (k .key) _ with-turns n l s h
 
 -- ---- the admission of each policy, from what is set aside
 

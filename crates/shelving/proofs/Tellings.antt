@@ -1,13 +1,11 @@
 -- Writing the evictions: one turn, and the whole. Assumes nothing.
-use mathlib.Core.Path.{_≡_, refl, sym, ap, _∙_, subst}
-use mathlib.Core.List.{List, [], _∷_, map}
-use Prim.Native.Nat.{ℕ, zero, suc, _+_, _-_, _*_, _≤_, _<_}
+use mathlib.Core.Path.{_≡_, refl, sym, ap, _∙_}
+use mathlib.Core.List.{List, _∷_, map}
+use Prim.Native.Nat.{ℕ, zero, suc, _+_, _-_, _≤_, _<_}
 use native.Mathlib.Omega.{arith}
 use native.Mathlib.Numerals.{add-one}
 use lib.ListN.{length, getD, set, length-set}
 use lib.Seq.{sets}
-use Rattle.amounts.specs.Limits.{catalogueMost}
-use Rattle.method.specs.Method.{Gone}
 use Rattle.method.specs.Events.{event, evict}
 use Rattle.tables.specs.Tables.{Tables}
 use Rattle.shelving.specs.Telling.{evictions, Tellable, Told}

@@ -10,20 +10,20 @@ use Rattle.method.specs.Method.{Gone}
 use Rattle.tables.specs.Tables.{Tables, Long, recordAt}
 use Rattle.tables.specs.Sound.{Occupied}
 
--- the tables with another queue
+-- document 01, "Tables and the tally": the tables with another queue
 abbrev pub withQueue : List ℕ → Tables → Tables
 withQueue q t = record { place = t .place; file = t .file; size = t .size; cost = t .cost; freq = t .freq; key = t .key; stamp = t .stamp; queue = q }
 
--- the file at queue entry i, with what is kept of it
+-- document 01, "Tables and the tally": the file at queue entry i, with what is kept of it
 abbrev pub goneAt : Tables → ℕ → Gone
 goneAt t i = record { file = getD (t .file) (getD (t .queue) i 0) 0; was = recordAt t (getD (t .queue) i 0) }
 
--- the k files behind the queue in the order in which they were set aside: the first stands last of the n entries
+-- document 01, "The run": the k files behind the queue in the order in which they were set aside: the first stands last of the n entries
 unfoldable pub behind : Tables → ℕ → ℕ → List Gone
 behind t n zero = []
 behind t n (suc k) = goneAt t (n - 1) ∷ behind t (n - 1) k
 
--- a shelf without some files
+-- document 01, "The run": a shelf without some files
 unfoldable pub without : List Gone → Shelf → Shelf
 without [] s = s
 without (g ∷ gs) s = without gs (set s (g .file) none)
@@ -44,25 +44,25 @@ clearAt p f t =
       queue = t .queue;
     }
 
--- the place at the last of n entries
+-- document 01, "Tables and the tally": the place at the last of n entries
 abbrev pub lastPlace : ℕ → Tables → ℕ
 lastPlace n t = getD (t .queue) (n - 1) 0
 
--- the file at the last of n entries dropped
+-- document 01, "Tables and the tally": the file at the last of n entries dropped
 abbrev pub dropLast : ℕ → Tables → Tables
 dropLast n t = withQueue (set (t .queue) (n - 1) 0) (clearAt (lastPlace n t) (getD (t .file) (lastPlace n t) 0) t)
 
--- k files dropped, from the last of n entries down
+-- document 01, "Tables and the tally": k files dropped, from the last of n entries down
 unfoldable pub dropAll : ℕ → ℕ → Tables → Tables
 dropAll zero n t = t
 dropAll (suc k) n t = dropAll k (n - 1) (dropLast n t)
 
--- their places put on the stack: beside n files kept it holds places - n
+-- document 01, "Tables and the tally": their places are used again: they go on the stack, which beside n files kept holds places - n
 unfoldable pub stackAll : ℕ → ℕ → ℕ → Tables → List ℕ → List ℕ
 stackAll places zero n t free = free
 stackAll places (suc k) n t free = stackAll places k (n - 1) (dropLast n t) (set free (places - n) (lastPlace n t))
 
--- what dropping asks: each of n entries is an occupied place, each once
+-- document 01, "Tables and the tally": what dropping asks: each of n entries is an occupied place, each once
 pub record Droppable (s : Settings) (n m : ℕ) (t : Tables) (free : List ℕ) : Type 0 where
   pub places : s .places .0 ≤ placesMost
   pub long : Long (s .places .0) (s .catalogue .0) t
@@ -72,7 +72,7 @@ pub record Droppable (s : Settings) (n m : ℕ) (t : Tables) (free : List ℕ) :
   pub entries : (i : ℕ) → i < n → Occupied s t (getD (t .queue) i 0)
   pub apart : (i j : ℕ) → i < n → j < n → getD (t .queue) i 0 ≡ getD (t .queue) j 0 → i ≡ j
 
--- what it promises
+-- document 01, "How much each promise says": every lent entry afterwards
 pub record Dropped (s : Settings) (n m : ℕ) (t : Tables) (free : List ℕ) (u : Tables) (free′ : List ℕ) : Type 0 where
   pub lent : u ≡ dropAll (n - m) n t
   pub stack : free′ ≡ stackAll (s .places .0) (n - m) n t free

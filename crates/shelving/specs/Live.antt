@@ -8,7 +8,7 @@ use Rattle.queue.specs.Queue.{Whole}
 use Rattle.tables.specs.Tables.{Tables, Long}
 use Rattle.tables.specs.Sound.{Linked, Queued, Spare}
 
--- n files are kept, of which the first m stand in the queue and the others are set aside behind it
+-- document 01, "Tables and the tally": n files are kept, of which the first m stand in the queue and the others are set aside behind it
 pub record Live (s : Settings) (n m : ℕ) (t : Tables) (entry : List ℕ) : Type 0 where
   pub places : s .places .0 ≤ placesMost
   pub catalogue : s .catalogue .0 ≤ catalogueMost
@@ -20,7 +20,7 @@ pub record Live (s : Settings) (n m : ℕ) (t : Tables) (entry : List ℕ) : Typ
   pub queued : Queued s n t
   pub whole : Whole (t .queue) entry (t .key) (t .stamp) m
 
--- the stack of free places beside n files kept
+-- document 01, "Tables and the tally": the stack of free places beside n files kept
 pub record Stack (s : Settings) (n : ℕ) (t : Tables) (free : List ℕ) : Type 0 where
   pub long : s .places .0 ≤ length free
   pub spare : Spare s n t free

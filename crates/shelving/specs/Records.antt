@@ -8,10 +8,11 @@ use Rattle.method.specs.Shelf as method
 use Rattle.tables.specs.Tables.{Tables}
 use Rattle.shelving.specs.declared.records.Kept.{Kept}
 
+-- document 01, "Tables and the tally": the tables but for the queue
 abbrev pub seven : List ℕ → List ℕ → List ℕ → List ℕ → List ℕ → List ℕ → List ℕ → Tables
 seven a b c d e f g = record { place = a; file = b; size = c; cost = d; freq = e; key = f; stamp = g; queue = [] }
 
--- a place and a file number are within the tables
+-- document 01, "Needed lengths": a place and a file number are within the tables
 pub record Within (p f : ℕ) (t : Tables) : Type 0 where
   pub place : f < length (t .place)
   pub file : p < length (t .file)
@@ -21,7 +22,7 @@ pub record Within (p f : ℕ) (t : Tables) : Type 0 where
   pub key : p < length (t .key)
   pub stamp : p < length (t .stamp)
 
--- a record that the tables can hold
+-- document 01, "Tables and the tally": a record that tables of 16-, 32- and 64-bit numbers can hold
 pub record Holdable (p f : ℕ) (k : Kept) : Type 0 where
   pub place : p < 65536
   pub file : f < 65536
@@ -29,7 +30,7 @@ pub record Holdable (p f : ℕ) (k : Kept) : Type 0 where
   pub cost : k .cost .0 < 65536
   pub freq : k .freq < 4294967296
 
--- what the record stands for
+-- document 01, "The run": what the record stands for
 abbrev pub keptOf : Kept → method.Kept
 keptOf k = record { size = k .size .0; cost = k .cost .0; freq = k .freq; key = k .key .0; stamp = k .stamp }
 
@@ -47,13 +48,13 @@ putAt p f k t =
       queue = t .queue;
     }
 
--- what keeping a file at place p asks: the place is free and not in the queue of n entries
+-- document 01, "The run": what keeping a file at place p asks: the place is free and not in the queue of n entries
 pub record Keepable (n p f : ℕ) (k : Kept) (t : Tables) (queue entry : List ℕ) : Type 0 where
   pub within : Within p f t
   pub holdable : Holdable p f k
   pub insertable : Insertable queue entry (t .key) (t .stamp) n p
 
--- what it leaves: u are the seven tables afterwards
+-- document 01, "The run": what it leaves: u are the seven tables afterwards
 pub record Keeps (n p f : ℕ) (k : Kept) (t u : Tables) (queue entry queue′ entry′ : List ℕ) : Type 0 where
   pub lent : u ≡ putAt p f (keptOf k) t
   pub inserted : Inserted queue queue′ entry entry′ (u .key) (u .stamp) n p

@@ -5,19 +5,21 @@ use Prim.Native.Nat.{ℕ, zero, suc}
 use lib.Dec.{ltb}
 use lib.ListN.{set}
 use Rattle.amounts.specs.Limits.{pick}
-use Rattle.method.specs.Shelf.{Kept, none, Shelf, Found, nothing, at, lowest}
+use Rattle.method.specs.Shelf.{Kept, none, Shelf, nothing, at, lowest}
 use Rattle.method.specs.Method.{Settings, Gone, beside, fits}
 
--- whether the newcomer would be taken itself, and what is set aside until then
+-- document 01, "The run": whether the newcomer would be taken itself, and what is set aside until then
 pub record Aside : Type 0 where
   pub low : Bool
   pub inflation : ℕ
   pub shelf : Shelf
   pub gone : List Gone
 
+-- document 01, "The run": nothing more is set aside
 abbrev pub stop : Bool → ℕ → Shelf → Aside
 stop b l s = record { low = b; inflation = l; shelf = s; gone = [] }
 
+-- document 01, "The run": file i, of which r is kept, is set aside first
 abbrev pub first : ℕ → Kept → Aside → Aside
 first i r x = record { low = x .low; inflation = x .inflation; shelf = x .shelf; gone = record { file = i; was = r } ∷ x .gone }
 

@@ -1,8 +1,6 @@
 // The files set aside leave: their events are told in order, then their records and places go.
-use crate::events::EVICT;
 use crate::records::clear;
 use crate::wide::wide16;
-use amounts::Catalogue;
 use amounts::Settings;
 ghost use mathlib.Core.Path.{_≡_};
 ghost use Rattle.tables.specs.Tables.{tables};
@@ -19,7 +17,7 @@ pub fn tell(n: usize, left: usize, file: &[u16], queue: &[u16], events: &mut [u3
     while left < i {
         let last = i - 1;
         let p = wide16(queue[last]);
-        events[e] = EVICT * (Catalogue::MOST as u32) + file[p] as u32;
+        events[e] = method::event(method::EVICT, wide16(file[p]));
         e += 1;
         i = last;
     }
@@ -51,7 +49,7 @@ pub fn drop_behind(
         let f = wide16(file[p]);
         clear(p, f, place, file, size, cost, freq, key, stamp);
         queue[last] = 0;
-        let height = settings.places.0 as usize - i;
+        let height = settings.places.count() - i;
         free[height] = freed;
         i = last;
     }

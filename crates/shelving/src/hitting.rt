@@ -16,7 +16,7 @@ fn again(policy: Policy, frequency: u64) -> u64
     requires { ⌜ frequency < requestsMost ⌝ }
     ensures { λ r. ⌜ r ≡ method.again (method.policyOf (policy .0)) frequency ⌝ }
 {
-    if policy.0 == Policy::SIZE {
+    if policy.without_frequency() {
         return 1;
     }
     frequency + 1
@@ -37,8 +37,8 @@ pub fn hit(
     requires { ⌜ Hittable a p (now size) (now cost) (now freq) (now key) (now stamp) (now queue) (now entry) ⌝ }
     ensures { λ r. ⌜ HitDone a p (now (size .entry)) (now (cost .entry)) (now (freq .entry)) (now (key .entry)) (now (stamp .entry)) (now (queue .entry)) (now (entry .entry)) (now (freq .exit)) (now (key .exit)) (now (stamp .exit)) (now (queue .exit)) (now (entry .exit)) r ⌝ }
 {
-    let z = Bytes(wide32(size[p]));
-    let w = Cost(wide16(cost[p]) as u64);
+    let z = Bytes::size(wide32(size[p]));
+    let w = Cost::asked(wide16(cost[p]) as u64);
     let f = again(a.settings.policy, wide32(freq[p]));
     let k = a.inflation.plus(amounts::product(f, z, w));
     let at = wide16(entry[p]);

@@ -1,5 +1,4 @@
 // What a request does to the tables: files kept and dropped, room made for a newcomer, a key set anew, and the events told.
-mod events;
 mod evict;
 mod hitting;
 mod keeping;
@@ -7,11 +6,6 @@ mod records;
 mod room;
 mod wide;
 
-pub use events::ADMIT;
-pub use events::BIG;
-pub use events::HIT;
-pub use events::LOW;
-pub use events::event;
 pub use evict::drop_behind;
 pub use evict::tell;
 pub use hitting::hit;

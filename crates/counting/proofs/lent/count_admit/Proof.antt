@@ -1,24 +1,16 @@
--- `counting::lent::count_admit` meets its contract: the walk is that of `LentWalk.antt`, at the claims of `admit_counted`.
--- Assumes nothing.
+-- `counting::lent::count_admit` meets its contract: the walk is that of `LentWalk.antt`, at the claims of `admit_counted`. Assumes nothing.
 use mathlib.Core.Path.{refl}
-use contract.Running.{givenOf, tables, tablesOf}
-use denote.Triple.Spec.{tripleOf}
-use denote.Triple.Table.{entered, cited}
 use Rattle.counting.specs.Counting.{admitTally}
-use Rattle.counting.proofs.Claims.{Asks, Says}
-use Rattle.counting.proofs.LentWalk.{Callee, lent-meets}
-use Rattle.counting.proofs.core.admit_counted.Symbol as callee-def
-use Rattle.counting.proofs.core.admit_counted.Symbol.{name as #callee}
-use Rattle.counting.proofs.core.admit_counted.Met as callee-thm
-use Rattle.counting.proofs.lent.count_admit.Key.{name as #self}
-use Rattle.counting.proofs.lent.count_admit as self
-use Rattle.counting.proofs.lent.count_admit.Statement as stated
+use Rattle.counting.proofs.LentWalk.{lent-runs}
+use Rattle.counting.proofs.core.admit_counted.Symbol as callee
+use Rattle.counting.proofs.core.admit_counted.Met.{met}
+use Rattle.counting.proofs.lent.count_admit.Key.{name}
+use Rattle.counting.proofs.lent.count_admit.{clauses}
+use Rattle.counting.proofs.lent.count_admit.Statement.{statement}
 use Rattle.counting.proofs.lent.count_admit.Code as code
 
-pub count-admit-spec : {M : Type 1} → stated.statement M
-unfolding code.routine tablesOf
+pub count-admit-spec : {M : Type 1} → statement M
+unfolding code.routine
 count-admit-spec 𝓤 H 𝓜 𝓖 𝓡 =
-    entered 𝓤 H (tripleOf 𝓤 H (𝓖 .A) self.signature (self.spec 𝓤 H (𝓖 .A) (𝓜 .mem) (𝓡 .run)))
-    (tables 𝓤 H 𝓜 𝓡 code.env .C) (tables 𝓤 H 𝓜 𝓡 code.env .Λ) #self code.function (code.unfolded 𝓤 H 𝓜 𝓡)
-    (lent-meets Asks (Says admitTally) #callee 𝓤 H (𝓖 .A) (givenOf 𝓤 H 𝓜 𝓖) (tablesOf 𝓤 H 𝓜 (tables 𝓤 H 𝓜 𝓡 code.env)) (self.clauses 𝓤 H (𝓖 .A) (𝓜 .mem) (𝓡 .run)) refl
-    (cited 𝓤 H (Callee Asks (Says admitTally) #callee 𝓤 H (𝓖 .A)) 𝓜 𝓡 code.env #callee callee-def.routine code.calls-counting·core·admit-counted (callee-thm.met 𝓤 H 𝓜 𝓖 𝓡)))
+    lent-runs admitTally callee.name 𝓤 H 𝓜 𝓖 𝓡 code.env name callee.routine (code.unfolded 𝓤 H 𝓜 𝓡) code.calls-counting·core·admit-counted (clauses 𝓤 H (𝓖 .A) (𝓜 .mem) (𝓡 .run)) refl
+    (met 𝓤 H 𝓜 𝓖 𝓡)

@@ -1,24 +1,16 @@
--- `counting::with::with_hit` meets its contract: the walk is that of `LendsWalk.antt`, at the claims of `count_hit`.
--- Assumes nothing.
+-- `counting::with::with_hit` meets its contract: the walk is that of `LendsWalk.antt`, at the claims of `count_hit`. Assumes nothing.
 use mathlib.Core.Path.{refl}
-use contract.Running.{givenOf, tables, tablesOf}
-use denote.Triple.Spec.{tripleOf}
-use denote.Triple.Table.{entered, cited}
 use Rattle.counting.specs.Counting.{hitTally}
-use Rattle.counting.proofs.Claims.{Asks, Says}
-use Rattle.counting.proofs.LendsWalk.{Callee, lends-meets}
-use Rattle.counting.proofs.lent.count_hit.Symbol as callee-def
-use Rattle.counting.proofs.lent.count_hit.Symbol.{name as #callee}
-use Rattle.counting.proofs.lent.count_hit.Met as callee-thm
-use Rattle.counting.proofs.with.with_hit.Key.{name as #self}
-use Rattle.counting.proofs.with.with_hit as self
-use Rattle.counting.proofs.with.with_hit.Statement as stated
+use Rattle.counting.proofs.LendsWalk.{lends-runs}
+use Rattle.counting.proofs.lent.count_hit.Symbol as callee
+use Rattle.counting.proofs.lent.count_hit.Met.{met}
+use Rattle.counting.proofs.with.with_hit.Key.{name}
+use Rattle.counting.proofs.with.with_hit.{clauses}
+use Rattle.counting.proofs.with.with_hit.Statement.{statement}
 use Rattle.counting.proofs.with.with_hit.Code as code
 
-pub with-hit-spec : {M : Type 1} → stated.statement M
-unfolding code.routine tablesOf
+pub with-hit-spec : {M : Type 1} → statement M
+unfolding code.routine
 with-hit-spec 𝓤 H 𝓜 𝓖 𝓡 =
-    entered 𝓤 H (tripleOf 𝓤 H (𝓖 .A) self.signature (self.spec 𝓤 H (𝓖 .A) (𝓜 .mem) (𝓡 .run)))
-    (tables 𝓤 H 𝓜 𝓡 code.env .C) (tables 𝓤 H 𝓜 𝓡 code.env .Λ) #self code.function (code.unfolded 𝓤 H 𝓜 𝓡)
-    (lends-meets Asks (Says hitTally) #callee 𝓤 H (𝓖 .A) (givenOf 𝓤 H 𝓜 𝓖) (tablesOf 𝓤 H 𝓜 (tables 𝓤 H 𝓜 𝓡 code.env)) (self.clauses 𝓤 H (𝓖 .A) (𝓜 .mem) (𝓡 .run)) refl
-    (cited 𝓤 H (Callee Asks (Says hitTally) #callee 𝓤 H (𝓖 .A)) 𝓜 𝓡 code.env #callee callee-def.routine code.calls-counting·lent·count-hit (callee-thm.met 𝓤 H 𝓜 𝓖 𝓡)))
+    lends-runs hitTally callee.name 𝓤 H 𝓜 𝓖 𝓡 code.env name callee.routine (code.unfolded 𝓤 H 𝓜 𝓡) code.calls-counting·lent·count-hit (clauses 𝓤 H (𝓖 .A) (𝓜 .mem) (𝓡 .run)) refl
+    (met 𝓤 H 𝓜 𝓖 𝓡)

@@ -1,16 +1,17 @@
 -- `newcomer::record::base` meets its contract. Assumes nothing.
-use mathlib.Core.Path.{sym, ap}
-use Rattle.method.specs.Method.{Policy}
-use Rattle.newcomer.specs.Newcomer.{baseOf}
-use Rattle.shelving.proofs.Hits.{is-gds, is-gdsf}
+use borrow.Author.Needs.{needs}
+use Rattle.amounts.proofs.Tests.{told}
 use Rattle.newcomer.proofs.record.base.Statement.{statement}
 use Rattle.newcomer.proofs.record.base.Tie as tie
 
+without-frequency-requires : tie.Need-without-frequency-requires
+without-frequency-requires c κs = search needs
+
 returns : tie.Need-returns
-returns c = sym (ap (λ (p : Policy). baseOf p (c .before .before .args .before .0) (c .before .before .args .after .0)) (is-gds _ (c .if1 .taken)))
+returns c = rw (told (c .before .without-frequency .ensures) (c .if1 .taken))
 
 returns-2 : tie.Need-returns-2
-returns-2 c = sym (ap (λ (p : Policy). baseOf p (c .before .before .args .before .0) (c .before .before .args .after .0)) (is-gdsf _ (c .if1 .left)))
+returns-2 c = rw (told (c .before .without-frequency .ensures) (c .if1 .left))
 
 pub base-spec : {M : Type 1} → statement M
-base-spec = tie.close (tie.spec returns returns-2)
+base-spec = tie.close (tie.spec without-frequency-requires returns returns-2)

@@ -2,7 +2,6 @@
 use Prim.Native.Nat.{_+_}
 use mathlib.Core.Path.{_∙_}
 use borrow.Author.Needs.{needs}
-use Rattle.method.specs.Shelf.{Kept}
 use Rattle.newcomer.proofs.record.newcomer.Statement.{statement}
 use Rattle.newcomer.proofs.record.newcomer.Tie as tie
 
