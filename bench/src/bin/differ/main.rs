@@ -1,5 +1,5 @@
 //! Compares the library with the model over the boundary, and the program's sheets with the model's where it is named:
-//! `differ [CASES [SEED [PROGRAM]]]`. Each kind of case must reach the answers that it is made for.
+//! `differ [CASES [SEED [PROGRAM ..]]]`. Each kind of case must reach the answers that it is made for.
 
 mod agree;
 mod craft;
@@ -16,7 +16,6 @@ mod soundness;
 mod traces;
 
 use std::io::Write;
-use std::path::PathBuf;
 use std::process::ExitCode;
 
 use bench::model::red_card::Answer;
@@ -108,12 +107,12 @@ fn main() -> ExitCode {
     let mut arguments = std::env::args().skip(1);
     let mut number = |missing| arguments.next().map_or(Ok(missing), |text| text.parse());
     let (Ok(cases), Ok(seed)) = (number(DEFAULT_CASES), number(DEFAULT_SEED)) else {
-        eprintln!("differ [CASES [SEED [PROGRAM]]]");
+        eprintln!("differ [CASES [SEED [PROGRAM ..]]]");
         return ExitCode::from(2);
     };
-    let program = arguments.next().map(PathBuf::from);
-    let printed = program.map(|path| {
-        printed::PROGRAM.get_or_init(|| path);
+    let program: Vec<String> = arguments.collect();
+    let printed = (!program.is_empty()).then(|| {
+        printed::PROGRAM.get_or_init(|| program);
         &PRINTED
     });
     println!("seed {seed}");

@@ -1,7 +1,6 @@
 //! Sheets that the program prints: good and damaged files on its standard input, in two pieces.
 
 use std::io::{ErrorKind, Result, Write};
-use std::path::{Path, PathBuf};
 use std::process::{Command, Stdio};
 use std::sync::OnceLock;
 
@@ -10,8 +9,8 @@ use bench::random::Random;
 
 use crate::{agree, damage, sheets, Verdict};
 
-/// The program, which the command line names.
-pub static PROGRAM: OnceLock<PathBuf> = OnceLock::new();
+/// The program that the command line names, with its arguments.
+pub static PROGRAM: OnceLock<Vec<String>> = OnceLock::new();
 
 pub fn all(random: &mut Random) -> Verdict {
     let program = PROGRAM.get().expect("a program is named");
@@ -21,14 +20,15 @@ pub fn all(random: &mut Random) -> Verdict {
     }
     let (first, second) = file.split_at(random.index(file.len() + 1));
     let printed =
-        run(program, [first, second]).map_err(|error| format!("{}: {error}", program.display()))?;
+        run(program, [first, second]).map_err(|error| format!("{}: {error}", program.join(" ")))?;
     agree::same_list("printed sheet", &printed, sheet(&file).as_bytes())?;
     Ok(vec![agree::said(&printed)])
 }
 
 /// What the program prints, given its input in pieces.
-fn run(program: &Path, pieces: [&[u8]; 2]) -> Result<Vec<u8>> {
-    let mut child = Command::new(program)
+fn run(program: &[String], pieces: [&[u8]; 2]) -> Result<Vec<u8>> {
+    let mut child = Command::new(&program[0])
+        .args(&program[1..])
         .stdin(Stdio::piped())
         .stdout(Stdio::piped())
         .spawn()?;
