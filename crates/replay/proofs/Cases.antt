@@ -73,6 +73,7 @@ module _ (a : Tally) (t : Tables) (told : List ℕ) (unit : ℕ) (part : List �
       go verdict.Fine q (inr m) e = let z : _≡_ {A = ℕ} 0 1 = cc in absurd (omega arith)
 
 -- entries beyond the needed ones are as they were, whatever the answer
-pub past : (a : Tally) (t : Tables) (told : List ℕ) (r : Carried) (u : Tables) (told′ part : List ℕ) (z : Answer) → Answers a t told r u told′ part z → beyondOf (a .settings) u ≡ beyondOf (a .settings) t
+pub past : (a : Tally) (t : Tables) (told : List ℕ) (r : Carried) (u : Tables) (told′ part : List ℕ) (z : Answer)
+    → Answers a t told r u told′ part z → beyondOf (a .settings) u ≡ beyondOf (a .settings) t
 past a t told r u told′ part (Refused x) h = ap (beyondOf (a .settings)) (h .lent)
 past a t told r u told′ part (Done n) h = h .past

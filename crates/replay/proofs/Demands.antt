@@ -40,7 +40,8 @@ demands s a t bytes es h =
     ap (λ (st : State). run (step (policyIn s) (storeOf s)) st (x .qs)) (λ i. record { inflation = 0; shelf = shelf i; stamp = 0 }) in
     let counts : totalsOf a ≡ totals zeros (soFar s (x .qs) .replies) = ap totalsOf (x .at-once .tally) ∙ ap (λ (y : Run State). totals zeros (y .replies)) same in
     let number : totalsOf a .requests ≡ length (x .qs) =
-    ap (λ z. z .requests) counts ∙ totals-requests zeros (soFar s (x .qs) .replies) ∙ zero-add (length (soFar s (x .qs) .replies)) ∙ run-replies (step (policyIn s) (storeOf s)) (fresh (storeOf s)) (x .qs) in
+    ap (λ z. z .requests) counts ∙ totals-requests zeros (soFar s (x .qs) .replies)
+    ∙ zero-add (length (soFar s (x .qs) .replies)) ∙ run-replies (step (policyIn s) (storeOf s)) (fresh (storeOf s)) (x .qs) in
     let y = settled s (h .range) in
     record {
       qs = x .qs;

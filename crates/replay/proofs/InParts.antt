@@ -111,7 +111,8 @@ module _ (a : Tally) (t : Tables) (b : Tally) (u : Tables) (qs : List Request) (
     further-sums : totals (totals (totalsOf a) (x .replies)) (y .replies) ≡ totals (totalsOf a) (runFrom a t (qs ++ ps) .replies)
     further-sums = sym (totals-append (totalsOf a) (x .replies) (y .replies)) ∙ ap (totals (totalsOf a)) (sym (run-append-replies one (stateOf a t) qs ps))
 
-    further-at-once : (told : List ℕ) (r : Carried) (w : Tables) (told′ more : List ℕ) → Runs ps b u told r w told′ → more ≡ eventsOf ps (runFrom b u ps) → AtOnce a t (r .tally) w (qs ++ ps) (es ++ more)
+    further-at-once : (told : List ℕ) (r : Carried) (w : Tables) (told′ more : List ℕ) → Runs ps b u told r w told′
+        → more ≡ eventsOf ps (runFrom b u ps) → AtOnce a t (r .tally) w (qs ++ ps) (es ++ more)
     further-at-once told r w told′ more g e =
         record {
           tally =
@@ -134,7 +135,8 @@ pub record Comes (a : Tally) (t : Tables) (b : Tally) (u : Tables) (bytes es : L
   pub sound : Sound b u
   pub long : Long (a .settings .places .0) (a .settings .catalogue .0) u
 
-pub in-parts : (a : Tally) (t : Tables) → Sound a t → Long (a .settings .places .0) (a .settings .catalogue .0) t → {b : Tally} {u : Tables} {bytes es : List ℕ} → Goes a t b u bytes es → Comes a t b u bytes es
+pub in-parts : (a : Tally) (t : Tables) → Sound a t → Long (a .settings .places .0) (a .settings .catalogue .0) t
+    → {b : Tally} {u : Tables} {bytes es : List ℕ} → Goes a t b u bytes es → Comes a t b u bytes es
 unfolding run totals events readOf
 in-parts a t s l here =
     record {

@@ -39,7 +39,8 @@ module _ (unit : ℕ) (part w : List ℕ) (t : Tables) (told : List ℕ) where
   module _ (r : ℕ) (w′ : List ℕ) (u : Tables) (told′ : List ℕ) where
     beyond-carried : CarriedOn unit part w t told r w′ u told′ → (beyondOf (tallyIn w .settings) u ≡ beyondOf (tallyIn w .settings) t) × (drop tallyWords w′ ≡ drop tallyWords w)
     beyond-carried f =
-        (past (tallyIn w) t told (f .carried) u told′ part (dueHere (tallyIn w) t told unit part) (answers (tallyIn w) t told unit part (f .carried) u told′ (f .carries)), ap (drop tallyWords) (f .tally) ∙ go (f .carried .answer))
+        let x = answers (tallyIn w) t told unit part (f .carried) u told′ (f .carries) in
+        (past (tallyIn w) t told (f .carried) u told′ part (dueHere (tallyIn w) t told unit part) x, ap (drop tallyWords) (f .tally) ∙ go (f .carried .answer))
       where
         go : (z : Answer) → drop tallyWords (carriedWords z (f .carried .tally) w) ≡ drop tallyWords w
         go (Done n) = drop-at (words (f .carried .tally)) (drop tallyWords w) tallyWords refl
@@ -73,7 +74,8 @@ module _ (unit : ℕ) (part w : List ℕ) (t : Tables) (told : List ℕ) where
           done = go (f .carried .answer) refl (z .needed);
         }
       where
-        go : (y : Answer) → f .carried .answer ≡ y → Left (tallyIn w .settings) (f .carried .tally .«files_kept») u₁ u₂ y → r₁ % 256 ≡ 0 → Renamed (tallyIn w .settings) (tallyIn w₁ .«files_kept») u₁ u₂
+        go : (y : Answer) → f .carried .answer ≡ y → Left (tallyIn w .settings) (f .carried .tally .«files_kept») u₁ u₂ y → r₁ % 256 ≡ 0
+            → Renamed (tallyIn w .settings) (tallyIn w₁ .«files_kept») u₁ u₂
         go (Refused x) q h e = absurd (no-refusal x (f .answer ∙ ap (λ (a : Answer). answerWord (answerCard a)) q) e)
         go (Done k) q h e =
             let same : tallyIn w₁ ≡ f .carried .tally = ap tallyIn (f .tally ∙ ap (λ (a : Answer). carriedWords a (f .carried .tally) w) q) ∙ tally-over (f .carried .tally) w in
@@ -102,7 +104,9 @@ module _ (unit : ℕ) (part w : List ℕ) (t : Tables) (told : List ℕ) where
 pub read-file-one : (trace w f s d : List ℕ) (r₁ r₂ : ℕ) (w₁ w₂ f₁ f₂ s₁ s₂ d₁ d₂ : List ℕ) → ReadFileWords trace w f s d r₁ w₁ f₁ s₁ d₁ → ReadFileWords trace w f s d r₂ w₂ f₂ s₂ d₂
     → (r₁ ≡ r₂) × (w₁ ≡ w₂) × (f₁ ≡ f₂) × (s₁ ≡ s₂) × (d₁ ≡ d₂)
 read-file-one trace w f s d r₁ r₂ w₁ w₂ f₁ f₂ s₁ s₂ d₁ d₂ p q =
-    (p .answer ∙ sym (q .answer), p .settings ∙ sym (q .settings), p .lists .in-files ∙ sym (q .lists .in-files), p .lists .in-sizes ∙ sym (q .lists .in-sizes), p .lists .in-costs ∙ sym (q .lists .in-costs))
+    let l = p .lists in
+    let m = q .lists in
+    (p .answer ∙ sym (q .answer), p .settings ∙ sym (q .settings), l .in-files ∙ sym (m .in-files), l .in-sizes ∙ sym (m .in-sizes), l .in-costs ∙ sym (m .in-costs))
 
 -- `snailstamp_read_part`
 pub read-part-one : (c : ℕ) (part f s d : List ℕ) (r₁ r₂ : ℕ) (f₁ f₂ s₁ s₂ d₁ d₂ : List ℕ) → ReadPartWords c part f s d r₁ f₁ s₁ d₁ → ReadPartWords c part f s d r₂ f₂ s₂ d₂

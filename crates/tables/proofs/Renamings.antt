@@ -70,17 +70,21 @@ one-name m p q h k e = sym (m .back p h) ∙ ap (m .from) e ∙ m .back q k
 
 -- ---- one table
 
+-- the place of a file
+abbrev placeOf : Tables → ℕ → ℕ
+placeOf t f = getD (t .place) f 0
+
 module _ (s : Settings) (few : s .places .0 ≤ placesMost) where
   module _ (t : Tables) (linked : Linked s t) where
     -- a file with a place has one that points back at it
-    at-home : (f : ℕ) → f < s .catalogue .0 → (getD (t .place) f 0 ≡ noPlace → ⊥) → At s t f (getD (t .place) f 0)
+    at-home : (f : ℕ) → f < s .catalogue .0 → (placeOf t f ≡ noPlace → ⊥) → At s t f (placeOf t f)
     at-home f h ne = ⊎-elim (λ e. absurd (ne e)) (λ x. x) (linked .out f h)
 
-    home-occupied : (f : ℕ) → f < s .catalogue .0 → (getD (t .place) f 0 ≡ noPlace → ⊥) → Occupied s t (getD (t .place) f 0)
-    home-occupied f h ne = let x = at-home f h ne in subst (λ (g : ℕ). At s t g (getD (t .place) f 0)) (sym (x .file)) x
+    home-occupied : (f : ℕ) → f < s .catalogue .0 → (placeOf t f ≡ noPlace → ⊥) → Occupied s t (placeOf t f)
+    home-occupied f h ne = let x = at-home f h ne in subst (λ (g : ℕ). At s t g (placeOf t f)) (sym (x .file)) x
 
     -- two files with one place are one file
-    one-file : (f g : ℕ) → f < s .catalogue .0 → g < s .catalogue .0 → (getD (t .place) f 0 ≡ noPlace → ⊥) → (getD (t .place) g 0 ≡ noPlace → ⊥) → getD (t .place) f 0 ≡ getD (t .place) g 0 → f ≡ g
+    one-file : (f g : ℕ) → f < s .catalogue .0 → g < s .catalogue .0 → (placeOf t f ≡ noPlace → ⊥) → (placeOf t g ≡ noPlace → ⊥) → placeOf t f ≡ placeOf t g → f ≡ g
     one-file f g h k nf ng e = sym (at-home f h nf .file) ∙ ap (λ (p : ℕ). getD (t .file) p 0) e ∙ at-home g k ng .file
 
     -- the place of an occupied place's file is a place
@@ -105,55 +109,55 @@ zeros t p z = λ i. record { size = z .size i; cost = z .cost i; freq = z .freq 
 
 module _ (s : Settings) (few : s .places .0 ≤ placesMost) (t u : Tables) (long : Long (s .places .0) (s .catalogue .0) t) (long′ : Long (s .places .0) (s .catalogue .0) u)
     (linked : Linked s t) (linked′ : Linked s u) (shelf : shelfOf (s .catalogue .0) t ≡ shelfOf (s .catalogue .0) u) where
-  slots : (f : ℕ) → f < s .catalogue .0 → slotOf t (getD (t .place) f 0) ≡ slotOf u (getD (u .place) f 0)
+  slots : (f : ℕ) → f < s .catalogue .0 → slotOf t (placeOf t f) ≡ slotOf u (placeOf u f)
   slots f h =
       sym (shelf-at (s .catalogue .0) t f h (long .place)) ∙ ap (λ (x : Shelf). getD x f none) shelf ∙ shelf-at (s .catalogue .0) u f h (long′ .place)
 
   -- a file has a place in both or in neither
-  away : (f : ℕ) → f < s .catalogue .0 → getD (t .place) f 0 ≡ noPlace → getD (u .place) f 0 ≡ noPlace
-  away f h e = ⊎-elim (λ x. x) (λ ne. absurd (never (sym (slot-none t _ e) ∙ slots f h ∙ slot-kept u _ ne))) (same (getD (u .place) f 0) noPlace)
+  away : (f : ℕ) → f < s .catalogue .0 → placeOf t f ≡ noPlace → placeOf u f ≡ noPlace
+  away f h e = ⊎-elim (λ x. x) (λ ne. absurd (never (sym (slot-none t _ e) ∙ slots f h ∙ slot-kept u _ ne))) (same (placeOf u f) noPlace)
 
-  home : (f : ℕ) → f < s .catalogue .0 → (getD (t .place) f 0 ≡ noPlace → ⊥) → getD (u .place) f 0 ≡ noPlace → ⊥
+  home : (f : ℕ) → f < s .catalogue .0 → (placeOf t f ≡ noPlace → ⊥) → placeOf u f ≡ noPlace → ⊥
   home f h ne e = never (sym (slot-none u _ e) ∙ sym (slots f h) ∙ slot-kept t _ ne)
 
   -- and one record
-  one-record : (f : ℕ) → f < s .catalogue .0 → (getD (t .place) f 0 ≡ noPlace → ⊥) → recordAt u (getD (u .place) f 0) ≡ recordAt t (getD (t .place) f 0)
+  one-record : (f : ℕ) → f < s .catalogue .0 → (placeOf t f ≡ noPlace → ⊥) → recordAt u (placeOf u f) ≡ recordAt t (placeOf t f)
   one-record f h ne =
-      let e : kept (recordAt t (getD (t .place) f 0)) ≡ kept (recordAt u (getD (u .place) f 0)) = sym (slot-kept t _ ne) ∙ slots f h ∙ slot-kept u _ (home f h ne) in
+      let e : kept (recordAt t (placeOf t f)) ≡ kept (recordAt u (placeOf u f)) = sym (slot-kept t _ ne) ∙ slots f h ∙ slot-kept u _ (home f h ne) in
       cc
 
   -- the places of the first k files are renamed as they stand in the other table
   record Follows (k : ℕ) (m : Renaming (s .places .0)) : Type 0 where
-    follows : (f : ℕ) → f < k → (getD (t .place) f 0 ≡ noPlace → ⊥) → m .to (getD (t .place) f 0) ≡ getD (u .place) f 0
+    follows : (f : ℕ) → f < k → (placeOf t f ≡ noPlace → ⊥) → m .to (placeOf t f) ≡ placeOf u f
 
   -- one file more that has a place: its name is exchanged for the right one, and no earlier file has either
-  module _ (k : ℕ) (h : k < s .catalogue .0) (m : Renaming (s .places .0)) (w : Follows k m) (ne : getD (t .place) k 0 ≡ noPlace → ⊥) where
-    inside : getD (t .place) k 0 < s .places .0
+  module _ (k : ℕ) (h : k < s .catalogue .0) (m : Renaming (s .places .0)) (w : Follows k m) (ne : placeOf t k ≡ noPlace → ⊥) where
+    inside : placeOf t k < s .places .0
     inside = at-home s few t linked k h ne .inside
 
-    moved : (f : ℕ) → f < suc k → (getD (t .place) f 0 ≡ noPlace → ⊥) → swap (m .to (getD (t .place) k 0)) (getD (u .place) k 0) (m .to (getD (t .place) f 0)) ≡ getD (u .place) f 0
+    moved : (f : ℕ) → f < suc k → (placeOf t f ≡ noPlace → ⊥) → swap (m .to (placeOf t k)) (placeOf u k) (m .to (placeOf t f)) ≡ placeOf u f
     moved f l nf = ⊎-elim
-        (λ x. subst (λ (g : ℕ). swap (m .to (getD (t .place) k 0)) (getD (u .place) k 0) (m .to (getD (t .place) g 0)) ≡ getD (u .place) g 0) (sym x) (swap-first (m .to (getD (t .place) k 0)) (getD (u .place) k 0)))
+        (λ x. subst (λ (g : ℕ). swap (m .to (placeOf t k)) (placeOf u k) (m .to (placeOf t g)) ≡ placeOf u g) (sym x) (swap-first (m .to (placeOf t k)) (placeOf u k)))
         (λ x. earlier x (omega arith) (w .follows f (omega arith) nf))
         (same f k)
       where
-        earlier : (f ≡ k → ⊥) → f < s .catalogue .0 → m .to (getD (t .place) f 0) ≡ getD (u .place) f 0 → swap (m .to (getD (t .place) k 0)) (getD (u .place) k 0) (m .to (getD (t .place) f 0)) ≡ getD (u .place) f 0
+        earlier : (f ≡ k → ⊥) → f < s .catalogue .0 → m .to (placeOf t f) ≡ placeOf u f → swap (m .to (placeOf t k)) (placeOf u k) (m .to (placeOf t f)) ≡ placeOf u f
         earlier x known was =
-            swap-other (m .to (getD (t .place) k 0)) (getD (u .place) k 0) (m .to (getD (t .place) f 0))
+            swap-other (m .to (placeOf t k)) (placeOf u k) (m .to (placeOf t f))
             (λ e. x (one-file s few t linked f k known h nf ne (one-name m _ _ (at-home s few t linked f known nf .inside) inside e)))
             (λ e. x (one-file s few u linked′ f k known h (home f known nf) (home k h ne) (sym was ∙ e)))
             ∙ was
 
     moves : (m′ : Renaming (s .places .0)) × Follows (suc k) m′
     moves =
-        (exchanged m (m .to (getD (t .place) k 0)) (getD (u .place) k 0) (m .inside _ inside) (at-home s few u linked′ k h (home k h ne) .inside), record { follows = moved })
+        (exchanged m (m .to (placeOf t k)) (placeOf u k) (m .inside _ inside) (at-home s few u linked′ k h (home k h ne) .inside), record { follows = moved })
 
   followed : (k : ℕ) → k ≤ s .catalogue .0 → (m : Renaming (s .places .0)) × Follows k m
   followed zero h = (as-it-is (s .places .0), record { follows = λ f l ne. absurd (omega arith) })
-  followed (suc k) h = let x = followed k (omega arith) in ⊎-elim (λ e. (x .0, stays (x .0) (x .1) e)) (λ ne. moves k (omega arith) (x .0) (x .1) ne) (same (getD (t .place) k 0) noPlace)
+  followed (suc k) h = let x = followed k (omega arith) in ⊎-elim (λ e. (x .0, stays (x .0) (x .1) e)) (λ ne. moves k (omega arith) (x .0) (x .1) ne) (same (placeOf t k) noPlace)
     where
-      stays : (m : Renaming (s .places .0)) → Follows k m → getD (t .place) k 0 ≡ noPlace → Follows (suc k) m
-      stays m w e = record { follows = λ f l ne. ⊎-elim (λ x. absurd (ne (ap (λ (g : ℕ). getD (t .place) g 0) x ∙ e))) (λ x. w .follows f (omega arith) ne) (same f k) }
+      stays : (m : Renaming (s .places .0)) → Follows k m → placeOf t k ≡ noPlace → Follows (suc k) m
+      stays m w e = record { follows = λ f l ne. ⊎-elim (λ x. absurd (ne (ap (λ (g : ℕ). placeOf t g) x ∙ e))) (λ x. w .follows f (omega arith) ne) (same f k) }
 
   module _ (n : ℕ) (queued : Queued s n t) (queued′ : Queued s n u) where
     all : (m : Renaming (s .places .0)) × Follows (s .catalogue .0) m
@@ -162,7 +166,7 @@ module _ (s : Settings) (few : s .places .0 ≤ placesMost) (t u : Tables) (long
     names : Renaming (s .places .0)
     names = all .0
 
-    named : (f : ℕ) → f < s .catalogue .0 → (getD (t .place) f 0 ≡ noPlace → ⊥) → names .to (getD (t .place) f 0) ≡ getD (u .place) f 0
+    named : (f : ℕ) → f < s .catalogue .0 → (placeOf t f ≡ noPlace → ⊥) → names .to (placeOf t f) ≡ placeOf u f
     unfolding names
     named f h ne = all .1 .follows f h ne
 
@@ -178,8 +182,8 @@ module _ (s : Settings) (few : s .places .0 ≤ placesMost) (t u : Tables) (long
     name-unused : (p : ℕ) → p < s .places .0 → (Occupied s t p → ⊥) → Occupied s u (names .to p) → ⊥
     name-unused p h free x =
         let f : ℕ = getD (u .file) (names .to p) 0 in
-        let ne : getD (t .place) f 0 ≡ noPlace → ⊥ = λ e. no-none s few u linked′ (names .to p) x (away f (x .known) e) in
-        let one : getD (t .place) f 0 ≡ p = one-name names _ _ (at-home s few t linked f (x .known) ne .inside) h (named f (x .known) ne ∙ x .place) in
+        let ne : placeOf t f ≡ noPlace → ⊥ = λ e. no-none s few u linked′ (names .to p) x (away f (x .known) e) in
+        let one : placeOf t f ≡ p = one-name names _ _ (at-home s few t linked f (x .known) ne .inside) h (named f (x .known) ne ∙ x .place) in
         free (subst (Occupied s t) one (home-occupied s few t linked f (x .known) ne))
 
     -- sound tables that stand for one shelf are the same but for a renaming of places and the queue's order
@@ -191,7 +195,7 @@ module _ (s : Settings) (few : s .places .0 ≤ placesMost) (t u : Tables) (long
           places = names;
           place =
               λ f h. ⊎-elim (λ e. away f h e ∙ sym (pick-true noPlace _ (eq-eqb _ _ e))) (λ ne. sym (named f h ne) ∙ sym (pick-false noPlace _ (ne-eqb _ _ ne)))
-              (same (getD (t .place) f 0) noPlace);
+              (same (placeOf t f) noPlace);
           file =
               λ p h. ⊎-elim
               (λ x. ap (λ (q : ℕ). getD (u .file) q 0) (name-of p x) ∙ at-home s few u linked′ _ (x .known) (home _ (x .known) (no-none s few t linked p x)) .file)

@@ -84,7 +84,8 @@ returns-3 c =
     let at-carry-on = put-carried→carry-on (tally→put-carried (c .before)) in
     let at-tally-from = carry-on→tally-from at-carry-on in
     let tested = at-tally-from .before .before in
-    carried-on _ _ _ _ _ _ _ _ _ _ _ (allowed (tested .before .before .is-unit .ensures) (tested .before .if1 .left)) (le-leb _ _ (tested .if2 .left)) (at-tally-from .tally-from .ensures) (at-carry-on .carry-on .ensures) (c .before .before .put-carried .ensures)
+    carried-on _ _ _ _ _ _ _ _ _ _ _ (allowed (tested .before .before .is-unit .ensures) (tested .before .if1 .left)) (le-leb _ _ (tested .if2 .left))
+    (at-tally-from .tally-from .ensures) (at-carry-on .carry-on .ensures) (c .before .before .put-carried .ensures)
 
 pub snailstamp-carry-on-spec : {M : Type 1} → statement M
 snailstamp-carry-on-spec =

@@ -34,7 +34,9 @@ refusal-word-requires : tie.Need-refusal-word-requires
 refusal-word-requires c κs = search needs
 
 returns : tie.Need-returns
-returns c = rw (c .refusal-word .ensures) (fresh-setting _ _ _ (ap inRange (sym (c .before .before .before .settings-from .ensures)) ∙ denied (c .before .before .in-range .ensures) (c .before .if1 .taken)))
+returns c =
+    rw (c .refusal-word .ensures)
+    (fresh-setting _ _ _ (ap inRange (sym (c .before .before .before .settings-from .ensures)) ∙ denied (c .before .before .in-range .ensures) (c .before .if1 .taken)))
 
 refusal-word-requires-2 : tie.Need-refusal-word-requires-2
 refusal-word-requires-2 c κs = search needs

@@ -39,13 +39,17 @@ returns-2 : tie.Need-returns-2
 returns-2 c =
     let at-start2 = known-told3→at-match2-keys1 c .before .before .before in
     let at-settings-at = known-told3→at-match2-keys1 c .before .before .before .before .before in
-    unread-stop _ _ _ (start-at _ _ _ _ (at-settings-at .settings-at .ensures) (at-start2 .start2 .given .1) .1) _ (counted-stop _ _ (sym (c .before .before .before .scan .ensures) ∙ c .before .found .given .1))
+    unread-stop _ _ _ (start-at _ _ _ _ (at-settings-at .settings-at .ensures) (at-start2 .start2 .given .1) .1) _
+    (counted-stop _ _ (sym (c .before .before .before .scan .ensures) ∙ c .before .found .given .1))
 
 enum-told : tie.Need-enum-told
 enum-told c = search needs
 
 returns-3 : tie.Need-returns-3
-returns-3 c = unread-room _ _ _ (start-at _ _ _ _ (enum-told→at-match2-keys2 c .before .before .before .before .before .settings-at .ensures) (c .before .before .before .before .start2 .given .1) .1) _ (counted-good _ _ (sym (c .before .before .scan .ensures) ∙ c .enum-told .given .1) .0)
+returns-3 c =
+    unread-room _ _ _
+    (start-at _ _ _ _ (enum-told→at-match2-keys2 c .before .before .before .before .before .settings-at .ensures) (c .before .before .before .before .start2 .given .1) .1) _
+    (counted-good _ _ (sym (c .before .before .scan .ensures) ∙ c .enum-told .given .1) .0)
 
 pub refused-unread-spec : {M : Type 1} → statement M
 refused-unread-spec =

@@ -24,7 +24,8 @@ returns : tie.Need-returns
 returns c =
     let start = c .before .before .before .before .before .before .before .before .before .before in
     wrote-words
-    (ap (λ (s : Settings). filePut s (length (start .args .out .now)) (start .args .files .now) (start .args .sizes .now) (start .args .costs .now)) (c .before .before .before .before .before .settings-from .ensures))
+    (ap (λ (s : Settings). filePut s (length (start .args .out .now)) (start .args .files .now) (start .args .sizes .now) (start .args .costs .now))
+    (c .before .before .before .before .before .settings-from .ensures))
     (c .before .before .before .write-file .ensures)
     (c .answer-word .ensures)
 
