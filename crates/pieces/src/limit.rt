@@ -1,10 +1,10 @@
 // 1,048,576 requests pass; one more is 5.
 use crate::sheets::settings;
+use amounts::Places;
 use libc::STDOUT_FILENO;
 use replay::Carried;
 use replay::carry_on;
 use tables::Tally;
-use tables::fresh;
 use trace::Answer;
 ghost use Prim.Native.Nat.{_≤_};
 
@@ -78,9 +78,9 @@ fn number_of(answer: Answer) -> u64 {
     }
 }
 
-// The same over tables of its own. The fresh start is not refused: settings and lengths are in order.
+// The same over tables of its own, as a fresh start leaves them.
 pub(crate) fn run_limit() {
-    let mut place = [0u16; 4];
+    let mut place = [Places::NONE; 4];
     let mut file = [0u16; 1];
     let mut size = [0u32; 1];
     let mut cost = [0u16; 1];
@@ -91,17 +91,6 @@ pub(crate) fn run_limit() {
     let part = [1u8; 3 * PART];
     let mut events = [0u32; 2 * PART + 1];
     let chosen = settings(3, 100, 1);
-    fresh(
-        chosen,
-        &mut place,
-        &mut file,
-        &mut size,
-        &mut cost,
-        &mut freq,
-        &mut key,
-        &mut stamp,
-        &mut queue,
-    );
     let ran = over_limit(
         Tally::new(chosen),
         &mut place,
