@@ -1,12 +1,12 @@
 // 1,048,576 requests pass; one more is 5.
 use crate::sheets::settings;
-use amounts::Settings;
+use amounts::Places;
 use libc::STDOUT_FILENO;
+use replay::Carried;
 use replay::carry_on;
-use tables::Started;
 use tables::Tally;
-use tables::fresh;
 use trace::Answer;
+ghost use Prim.Native.Nat.{_≤_};
 
 // The requests of a part, each for file 1 of size 1 and cost 1.
 const PART: usize = 16384;
@@ -14,32 +14,15 @@ const PART: usize = 16384;
 // So many parts come to the run limit.
 const PARTS: u64 = 64;
 
-// The tally of a start, or a new one if it was refused.
-fn tally_of(started: Started, chosen: Settings) -> Tally {
-    match started {
-        Started::Refused(_) => Tally::new(chosen),
-        Started::Done(a) => a,
-    }
+// How much of the part a turn takes: all of it up to the limit, then one request.
+fn length_at(turn: u64, whole: usize) -> usize
+    ensures { λ r. ⌜ r ≤ whole ⌝ }
+{
+    if turn < PARTS { whole } else { whole / PART }
 }
 
-// A fresh start with one place.
-fn start(
-    place: &mut [u16],
-    file: &mut [u16],
-    size: &mut [u32],
-    cost: &mut [u16],
-    freq: &mut [u32],
-    key: &mut [u64],
-    stamp: &mut [u64],
-    queue: &mut [u16],
-) -> Tally {
-    let chosen = settings(3, 100, 1);
-    let started = fresh(chosen, place, file, size, cost, freq, key, stamp, queue);
-    tally_of(started, chosen)
-}
-
-// The tally after so many times the part.
-fn repeat(
+// The part over and over up to the run limit, then one request more: its answer, and the tally.
+fn over_limit(
     begun: Tally,
     place: &mut [u16],
     file: &mut [u16],
@@ -51,12 +34,18 @@ fn repeat(
     queue: &mut [u16],
     part: &[u8],
     events: &mut [u32],
-) -> Tally {
-    let mut t = begun;
+) -> Carried {
+    let nothing = Answer::Done(0);
+    let mut ran = Carried {
+        answer: nothing,
+        tally: begun,
+    };
     let mut i: u64 = 0;
-    while i < PARTS {
+    while i <= PARTS {
+        let t = ran.tally;
         let unit = t.settings.unit;
-        let ran = carry_on(
+        let length = length_at(i, part.len());
+        ran = carry_on(
             unit,
             t,
             place,
@@ -67,14 +56,12 @@ fn repeat(
             key,
             stamp,
             queue,
-            part,
+            &part[..length],
             events,
         );
-        let next = ran.tally;
-        t = next;
         i += 1;
     }
-    t
+    ran
 }
 
 fn print_line(word: &[u8], n: u64) {
@@ -83,77 +70,17 @@ fn print_line(word: &[u8], n: u64) {
     io::write_all(STDOUT_FILENO, b"\n");
 }
 
-// One request more: the number that it is refused with.
-fn one_more(
-    t: Tally,
-    place: &mut [u16],
-    file: &mut [u16],
-    size: &mut [u32],
-    cost: &mut [u16],
-    freq: &mut [u32],
-    key: &mut [u64],
-    stamp: &mut [u64],
-    queue: &mut [u16],
-    events: &mut [u32],
-) -> u64 {
-    let one = [1u8; 3];
-    let unit = t.settings.unit;
-    let ran = carry_on(
-        unit,
-        t,
-        place,
-        file,
-        size,
-        cost,
-        freq,
-        key,
-        stamp,
-        queue,
-        &one,
-        events,
-    );
-    let answer = ran.answer;
+// The number of an answer, 0 where it is done.
+fn number_of(answer: Answer) -> u64 {
     match answer {
         Answer::Done(_) => 0,
         Answer::Refused(x) => x.number(),
     }
 }
 
-// The run up to its limit, and one request more.
-fn over_limit(
-    place: &mut [u16],
-    file: &mut [u16],
-    size: &mut [u32],
-    cost: &mut [u16],
-    freq: &mut [u32],
-    key: &mut [u64],
-    stamp: &mut [u64],
-    queue: &mut [u16],
-    part: &[u8],
-    events: &mut [u32],
-) {
-    let begun = start(place, file, size, cost, freq, key, stamp, queue);
-    let t = repeat(
-        begun,
-        place,
-        file,
-        size,
-        cost,
-        freq,
-        key,
-        stamp,
-        queue,
-        part,
-        events,
-    );
-    print_line(b"requests ", t.requests);
-    let number = one_more(t, place, file, size, cost, freq, key, stamp, queue, events);
-    print_line(b"refused ", number);
-}
-
-// The same over tables of its own.
+// The same over tables of its own, as a fresh start leaves them.
 pub(crate) fn run_limit() {
-    let mut place = [0u16; 4];
+    let mut place = [Places::NONE; 4];
     let mut file = [0u16; 1];
     let mut size = [0u32; 1];
     let mut cost = [0u16; 1];
@@ -163,7 +90,9 @@ pub(crate) fn run_limit() {
     let mut queue = [0u16; 1];
     let part = [1u8; 3 * PART];
     let mut events = [0u32; 2 * PART + 1];
-    over_limit(
+    let chosen = settings(3, 100, 1);
+    let ran = over_limit(
+        Tally::new(chosen),
         &mut place,
         &mut file,
         &mut size,
@@ -175,4 +104,8 @@ pub(crate) fn run_limit() {
         &part,
         &mut events,
     );
+    let t = ran.tally;
+    print_line(b"requests ", t.requests);
+    let answer = ran.answer;
+    print_line(b"refused ", number_of(answer));
 }

@@ -1,71 +1,121 @@
--- `pieces::limit::over_limit` is safe: each lent table keeps its length through the calls. Assumes nothing.
-use mathlib.Core.Path.{_∙_}
+-- `pieces::limit::over_limit` is safe and ends: each part leaves the lengths of the lent tables. Assumes nothing.
+use Prim.Native.Nat.{_-_}
+use mathlib.Core.Path.{_≡_, refl, sym, _∙_}
+use native.Mathlib.Omega.{arith}
 use borrow.Author.Needs.{needs}
+use lib.ListN.{length}
+use lib.Seq.{length-take-le}
+use Rattle.tables.specs.Tables.{tables}
+use Rattle.shelving.proofs.Dropping.{SameLengths, same-lengths}
 use Rattle.pieces.proofs.limit.over_limit.Statement.{statement}
 use Rattle.pieces.proofs.limit.over_limit.Tie as tie
 
-start-requires : tie.Need-start-requires
-start-requires c κs = search needs
+abbrev Inv-loop : tie.InvT-loop
+Inv-loop place₀ file₀ size₀ cost₀ freq₀ key₀ stamp₀ queue₀ part events₀ ran₀ i₀ place file size cost freq key stamp queue events ran i =
+    SameLengths (tables place₀ file₀ size₀ cost₀ freq₀ key₀ stamp₀ queue₀) (tables place file size cost freq key stamp queue) × (length events ≡ length events₀)
 
-repeat-requires : tie.Need-repeat-requires
-repeat-requires c κs = search needs
+abbrev μ-loop : tie.MeasureT-loop
+μ-loop place₀ file₀ size₀ cost₀ freq₀ key₀ stamp₀ queue₀ part events₀ ran₀ i₀ place file size cost freq key stamp queue events ran i = 65 - i
 
-slice-aggregate-print-line : tie.Need-slice-aggregate-print-line
-slice-aggregate-print-line c = search needs
+-- ways back
+abbrev part→length : tie.After-carry-on-arg9 Inv-loop μ-loop → tie.After-length-at Inv-loop μ-loop
+part→length c = c .before .before .before .before .before .before .before .before .before
 
-print-line-requires : tie.Need-print-line-requires
-print-line-requires c κs = search needs
+abbrev carried→turn : tie.After-carry-on Inv-loop μ-loop → tie.In-loop Inv-loop μ-loop
+carried→turn c = c .before .before .before .before .before .before .before .before .before .before .before .before .before .before
 
-one-more-requires : tie.Need-one-more-requires
-one-more-requires c κs = search needs
+abbrev place→turn : tie.After-place Inv-loop μ-loop → tie.In-loop Inv-loop μ-loop
+place→turn c = carried→turn (c .before)
 
-slice-aggregate-print-line-2 : tie.Need-slice-aggregate-print-line-2
-slice-aggregate-print-line-2 c = search needs
+abbrev events→place : tie.After-events Inv-loop μ-loop → tie.After-place Inv-loop μ-loop
+events→place c = c .before .before .before .before .before .before .before .before .before .before .before .before .before .before .before .before
 
-print-line-requires-2 : tie.Need-print-line-requires-2
-print-line-requires-2 c κs = search needs
+loop-holds : tie.Need-loop-holds Inv-loop μ-loop
+loop-holds c = (same-lengths _, refl)
 
-same-length : tie.Need-same-length
-same-length c = c .before .before .before .before .before .before .before .before .before .before .before .before .before .before .before .before .before .before .before .place3 .given ∙ c .before .before .before .before .before .before .before .before .before .before .before .before .before .before .before .before .before .before .before .before .before .before .before .before .before .before .before .before .before .before .before .before .before .before .before .before .before .before .before .before .before .before .before .before .before .before .before .before .before .place2 .given ∙ c .before .before .before .before .before .before .before .before .before .before .before .before .before .before .before .before .before .before .before .before .before .before .before .before .before .before .before .before .before .before .before .before .before .before .before .before .before .before .before .before .before .before .before .before .before .before .before .before .before .before .before .before .before .before .before .before .before .before .before .before .before .before .before .before .before .before .before .before .before .before .before .before .before .before .before .place .given
+length-at-requires : tie.Need-length-at-requires Inv-loop μ-loop
+length-at-requires c κs = search needs
 
-same-length-2 : tie.Need-same-length-2
-same-length-2 c = c .before .before .before .before .before .before .before .before .before .before .before .before .before .before .before .before .before .file3 .given ∙ c .before .before .before .before .before .before .before .before .before .before .before .before .before .before .before .before .before .before .before .before .before .before .before .before .before .before .before .before .before .before .before .before .before .before .before .before .before .before .before .before .before .before .before .before .before .before .before .file2 .given ∙ c .before .before .before .before .before .before .before .before .before .before .before .before .before .before .before .before .before .before .before .before .before .before .before .before .before .before .before .before .before .before .before .before .before .before .before .before .before .before .before .before .before .before .before .before .before .before .before .before .before .before .before .before .before .before .before .before .before .before .before .before .before .before .before .before .before .before .before .before .before .before .before .before .before .file .given
+slice-aggregate-carry-on : tie.Need-slice-aggregate-carry-on Inv-loop μ-loop
+slice-aggregate-carry-on c = sym (length-take-le _ _ (part→length c .length-at .ensures))
 
-same-length-3 : tie.Need-same-length-3
-same-length-3 c = c .before .before .before .before .before .before .before .before .before .before .before .before .before .before .before .size3 .given ∙ c .before .before .before .before .before .before .before .before .before .before .before .before .before .before .before .before .before .before .before .before .before .before .before .before .before .before .before .before .before .before .before .before .before .before .before .before .before .before .before .before .before .before .before .before .before .size2 .given ∙ c .before .before .before .before .before .before .before .before .before .before .before .before .before .before .before .before .before .before .before .before .before .before .before .before .before .before .before .before .before .before .before .before .before .before .before .before .before .before .before .before .before .before .before .before .before .before .before .before .before .before .before .before .before .before .before .before .before .before .before .before .before .before .before .before .before .before .before .before .before .before .before .size .given
+carry-on-requires : tie.Need-carry-on-requires Inv-loop μ-loop
+carry-on-requires c κs = search needs
 
-same-length-4 : tie.Need-same-length-4
-same-length-4 c = c .before .before .before .before .before .before .before .before .before .before .before .before .before .cost3 .given ∙ c .before .before .before .before .before .before .before .before .before .before .before .before .before .before .before .before .before .before .before .before .before .before .before .before .before .before .before .before .before .before .before .before .before .before .before .before .before .before .before .before .before .before .before .cost2 .given ∙ c .before .before .before .before .before .before .before .before .before .before .before .before .before .before .before .before .before .before .before .before .before .before .before .before .before .before .before .before .before .before .before .before .before .before .before .before .before .before .before .before .before .before .before .before .before .before .before .before .before .before .before .before .before .before .before .before .before .before .before .before .before .before .before .before .before .before .before .before .before .cost .given
+add-i : tie.Need-add-i Inv-loop μ-loop
+add-i c = omega (arith, place→turn (events→place (c .before)) .loop-test .taken)
 
-same-length-5 : tie.Need-same-length-5
-same-length-5 c = c .before .before .before .before .before .before .before .before .before .before .before .freq3 .given ∙ c .before .before .before .before .before .before .before .before .before .before .before .before .before .before .before .before .before .before .before .before .before .before .before .before .before .before .before .before .before .before .before .before .before .before .before .before .before .before .before .before .before .freq2 .given ∙ c .before .before .before .before .before .before .before .before .before .before .before .before .before .before .before .before .before .before .before .before .before .before .before .before .before .before .before .before .before .before .before .before .before .before .before .before .before .before .before .before .before .before .before .before .before .before .before .before .before .before .before .before .before .before .before .before .before .before .before .before .before .before .before .before .before .before .before .freq .given
+loop-less : tie.Need-loop-less Inv-loop μ-loop
+loop-less c = omega (arith, place→turn (events→place (c .before)) .loop-test .taken)
 
-same-length-6 : tie.Need-same-length-6
-same-length-6 c = c .before .before .before .before .before .before .before .before .before .key3 .given ∙ c .before .before .before .before .before .before .before .before .before .before .before .before .before .before .before .before .before .before .before .before .before .before .before .before .before .before .before .before .before .before .before .before .before .before .before .before .before .before .before .key2 .given ∙ c .before .before .before .before .before .before .before .before .before .before .before .before .before .before .before .before .before .before .before .before .before .before .before .before .before .before .before .before .before .before .before .before .before .before .before .before .before .before .before .before .before .before .before .before .before .before .before .before .before .before .before .before .before .before .before .before .before .before .before .before .before .before .before .before .before .key .given
+loop-again : tie.Need-loop-again Inv-loop μ-loop
+loop-again c =
+    let events = c .before in
+    let queue = events .before .before in
+    let stamp = queue .before .before in
+    let key = stamp .before .before in
+    let freq = key .before .before in
+    let cost = freq .before .before in
+    let size = cost .before .before in
+    let file = size .before .before in
+    let place = file .before .before in
+    let inv = place→turn place .before .loop .inv in (
+      record {
+        place = place .place .given ∙ inv .0 .place;
+        file = file .file .given ∙ inv .0 .file;
+        size = size .size .given ∙ inv .0 .size;
+        cost = cost .cost .given ∙ inv .0 .cost;
+        freq = freq .freq .given ∙ inv .0 .freq;
+        key = key .key .given ∙ inv .0 .key;
+        stamp = stamp .stamp .given ∙ inv .0 .stamp;
+        queue = queue .queue .given ∙ inv .0 .queue;
+      },
+      events .events .given ∙ inv .1,
+    )
 
-same-length-7 : tie.Need-same-length-7
-same-length-7 c = c .before .before .before .before .before .before .before .stamp3 .given ∙ c .before .before .before .before .before .before .before .before .before .before .before .before .before .before .before .before .before .before .before .before .before .before .before .before .before .before .before .before .before .before .before .before .before .before .before .before .before .stamp2 .given ∙ c .before .before .before .before .before .before .before .before .before .before .before .before .before .before .before .before .before .before .before .before .before .before .before .before .before .before .before .before .before .before .before .before .before .before .before .before .before .before .before .before .before .before .before .before .before .before .before .before .before .before .before .before .before .before .before .before .before .before .before .before .before .before .before .stamp .given
+same-length : tie.Need-same-length Inv-loop μ-loop
+same-length c = c .before .loop .inv .0 .place
 
-same-length-8 : tie.Need-same-length-8
-same-length-8 c = c .before .before .before .before .before .queue3 .given ∙ c .before .before .before .before .before .before .before .before .before .before .before .before .before .before .before .before .before .before .before .before .before .before .before .before .before .before .before .before .before .before .before .before .before .before .before .queue2 .given ∙ c .before .before .before .before .before .before .before .before .before .before .before .before .before .before .before .before .before .before .before .before .before .before .before .before .before .before .before .before .before .before .before .before .before .before .before .before .before .before .before .before .before .before .before .before .before .before .before .before .before .before .before .before .before .before .before .before .before .before .before .before .before .queue .given
+same-length-2 : tie.Need-same-length-2 Inv-loop μ-loop
+same-length-2 c = c .before .loop .inv .0 .file
 
-same-length-9 : tie.Need-same-length-9
-same-length-9 c = c .before .before .before .events2 .given ∙ c .before .before .before .before .before .before .before .before .before .before .before .before .before .before .before .before .before .before .before .before .before .before .before .before .before .before .before .before .before .before .before .before .before .events .given
+same-length-3 : tie.Need-same-length-3 Inv-loop μ-loop
+same-length-3 c = c .before .loop .inv .0 .size
 
-returns : tie.Need-returns
+same-length-4 : tie.Need-same-length-4 Inv-loop μ-loop
+same-length-4 c = c .before .loop .inv .0 .cost
+
+same-length-5 : tie.Need-same-length-5 Inv-loop μ-loop
+same-length-5 c = c .before .loop .inv .0 .freq
+
+same-length-6 : tie.Need-same-length-6 Inv-loop μ-loop
+same-length-6 c = c .before .loop .inv .0 .key
+
+same-length-7 : tie.Need-same-length-7 Inv-loop μ-loop
+same-length-7 c = c .before .loop .inv .0 .stamp
+
+same-length-8 : tie.Need-same-length-8 Inv-loop μ-loop
+same-length-8 c = c .before .loop .inv .0 .queue
+
+same-length-9 : tie.Need-same-length-9 Inv-loop μ-loop
+same-length-9 c = c .before .loop .inv .1
+
+returns : tie.Need-returns Inv-loop μ-loop
 returns c = search needs
 
 pub over-limit-spec : {M : Type 1} → statement M
 over-limit-spec =
     tie.close
     (tie.spec
-    start-requires
-    repeat-requires
-    slice-aggregate-print-line
-    print-line-requires
-    one-more-requires
-    slice-aggregate-print-line-2
-    print-line-requires-2
+    Inv-loop
+    μ-loop
+    loop-holds
+    length-at-requires
+    slice-aggregate-carry-on
+    carry-on-requires
+    add-i
+    loop-less
+    loop-again
     same-length
     same-length-2
     same-length-3
