@@ -34,4 +34,6 @@ returns : tie.Need-returns
 returns c = c .lower .ensures
 
 pub lower-place-spec : {M : Type 1} → statement M
-lower-place-spec = tie.close (tie.spec mul-key-a shared-slice-read-key-a mul-key-b shared-slice-read-key-b mul-stamp-a shared-slice-read-stamp-a mul-stamp-b shared-slice-read-stamp-b lower-requires returns)
+lower-place-spec =
+    tie.close
+    (tie.spec mul-key-a shared-slice-read-key-a mul-key-b shared-slice-read-key-b mul-stamp-a shared-slice-read-stamp-a mul-stamp-b shared-slice-read-stamp-b lower-requires returns)
