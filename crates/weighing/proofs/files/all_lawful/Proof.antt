@@ -56,16 +56,4 @@ returns-2 c =
     answer-yes (λ k l. c .before .loop .inv k (omega (arith, count .count .ensures, c .loop-test .left)))
 
 pub all-lawful-spec : {M : Type 1} → statement M
-all-lawful-spec =
-    tie.close
-    (tie.spec
-    Inv-loop
-    μ-loop
-    count-requires
-    loop-holds
-    is-lawful-requires
-    returns
-    add-f
-    loop-less
-    loop-again
-    returns-2)
+all-lawful-spec = tie.close (tie.spec Inv-loop μ-loop count-requires loop-holds is-lawful-requires returns add-f loop-less loop-again returns-2)

@@ -119,27 +119,6 @@ returns-4 c =
 pub is-lawful-spec : {M : Type 1} → statement M
 is-lawful-spec =
     tie.close
-    (tie.spec
-    mul-p
-    shared-slice-read-p
-    cast-p
-    cast-if1
-    returns
-    count-requires
-    returns-2
-    mul-if3
-    shared-slice-read-if3
-    cast-if3
-    returns-3
-    mul-is-right
-    shared-slice-read-is-right
-    mul-is-right-2
-    shared-slice-read-is-right-2
-    mul-is-right-3
-    shared-slice-read-is-right-3
-    mul-t25
-    shared-slice-read-t27
-    mul-is-right-4
-    shared-slice-read-is-right-4
-    is-right-requires
-    returns-4)
+    (tie.spec mul-p shared-slice-read-p cast-p cast-if1 returns count-requires returns-2 mul-if3 shared-slice-read-if3 cast-if3 returns-3 mul-is-right
+    shared-slice-read-is-right mul-is-right-2 shared-slice-read-is-right-2 mul-is-right-3 shared-slice-read-is-right-3 mul-t25 shared-slice-read-t27
+    mul-is-right-4 shared-slice-read-is-right-4 is-right-requires returns-4)

@@ -72,18 +72,5 @@ returns-8 c =
 pub is-right-spec : {M : Type 1} → statement M
 is-right-spec =
     tie.close
-    (tie.spec
-    is-size-requires
-    returns
-    returns-2
-    returns-3
-    returns-4
-    is-once-requires
-    returns-5
-    returns-6
-    at-most-requires
-    returns-7
-    kept-product-requires
-    minus-requires
-    at-most-requires-2
-    returns-8)
+    (tie.spec is-size-requires returns returns-2 returns-3 returns-4 is-once-requires returns-5 returns-6 at-most-requires returns-7
+    kept-product-requires minus-requires at-most-requires-2 returns-8)

@@ -118,20 +118,5 @@ returns-6 c =
 pub sums-agree-spec : {M : Type 1} → statement M
 sums-agree-spec =
     tie.close
-    (tie.spec
-    count-kept-requires
-    returns
-    sum-kept-requires
-    same-requires
-    returns-2
-    at-most-requires
-    returns-3
-    sum-kept-requires-2
-    returns-4
-    most-requires
-    at-most-requires-2
-    returns-5
-    sum-products-requires
-    minus-requires
-    at-most-requires-3
-    returns-6)
+    (tie.spec count-kept-requires returns sum-kept-requires same-requires returns-2 at-most-requires returns-3 sum-kept-requires-2 returns-4
+    most-requires at-most-requires-2 returns-5 sum-products-requires minus-requires at-most-requires-3 returns-6)

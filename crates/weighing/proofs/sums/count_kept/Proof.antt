@@ -64,17 +64,4 @@ returns c =
     loop .inv .2 ∙ ap (λ (k : ℕ). files (shelfOf k (tables (start .args .place .now) [] [] [] [] [] [] []))) e
 
 pub count-kept-spec : {M : Type 1} → statement M
-count-kept-spec =
-    tie.close
-    (tie.spec
-    Inv-loop
-    μ-loop
-    count-requires
-    loop-holds
-    mul-if1
-    shared-slice-read-if1
-    add-sum
-    add-f
-    loop-less
-    loop-again
-    returns)
+count-kept-spec = tie.close (tie.spec Inv-loop μ-loop count-requires loop-holds mul-if1 shared-slice-read-if1 add-sum add-f loop-less loop-again returns)

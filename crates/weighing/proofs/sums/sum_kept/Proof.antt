@@ -95,20 +95,5 @@ returns c =
 pub sum-kept-spec : {M : Type 1} → statement M
 sum-kept-spec =
     tie.close
-    (tie.spec
-    Inv-loop
-    μ-loop
-    count-requires
-    loop-holds
-    mul-p
-    shared-slice-read-p
-    cast-p
-    cast-if1
-    mul-sum
-    shared-slice-read-sum
-    cast-sum
-    add-sum
-    add-f
-    loop-less
-    loop-again
-    returns)
+    (tie.spec Inv-loop μ-loop count-requires loop-holds mul-p shared-slice-read-p cast-p cast-if1 mul-sum shared-slice-read-sum cast-sum add-sum add-f
+    loop-less loop-again returns)

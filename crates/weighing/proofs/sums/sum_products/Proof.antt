@@ -138,25 +138,6 @@ returns c =
 pub sum-products-spec : {M : Type 1} → statement M
 sum-products-spec =
     tie.close
-    (tie.spec
-    Inv-loop
-    μ-loop
-    count-requires
-    loop-holds
-    mul-p
-    shared-slice-read-p
-    cast-p
-    cast-if1
-    mul-kept-product
-    shared-slice-read-kept-product
-    mul-kept-product-2
-    shared-slice-read-kept-product-2
-    mul-kept-product-3
-    shared-slice-read-kept-product-3
-    cast-kept-product
-    kept-product-requires
-    plus-requires
-    add-f
-    loop-less
-    loop-again
-    returns)
+    (tie.spec Inv-loop μ-loop count-requires loop-holds mul-p shared-slice-read-p cast-p cast-if1 mul-kept-product shared-slice-read-kept-product
+    mul-kept-product-2 shared-slice-read-kept-product-2 mul-kept-product-3 shared-slice-read-kept-product-3 cast-kept-product kept-product-requires
+    plus-requires add-f loop-less loop-again returns)

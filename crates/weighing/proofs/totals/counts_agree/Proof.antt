@@ -53,16 +53,4 @@ returns-6 c =
     answer-as (c .bytes-agree .ensures) (λ b. record { few = few ranged; outcomes = c .before .if5 .left; bytes = b }) (λ w. w .bytes)
 
 pub counts-agree-spec : {M : Type 1} → statement M
-counts-agree-spec =
-    tie.close
-    (tie.spec
-    in-range-requires
-    returns
-    returns-2
-    returns-3
-    returns-4
-    add-if5
-    add-if5-2
-    returns-5
-    bytes-agree-requires
-    returns-6)
+counts-agree-spec = tie.close (tie.spec in-range-requires returns returns-2 returns-3 returns-4 add-if5 add-if5-2 returns-5 bytes-agree-requires returns-6)

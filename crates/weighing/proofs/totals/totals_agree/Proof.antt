@@ -35,12 +35,4 @@ returns-4 c =
     answer-as (c .cost-agrees .ensures) (numbers _ (counted agreed) (omega arith)) (numbers-spent _)
 
 pub totals-agree-spec : {M : Type 1} → statement M
-totals-agree-spec =
-    tie.close
-    (tie.spec
-    counts-agree-requires
-    returns
-    returns-2
-    returns-3
-    cost-agrees-requires
-    returns-4)
+totals-agree-spec = tie.close (tie.spec counts-agree-requires returns returns-2 returns-3 cost-agrees-requires returns-4)
