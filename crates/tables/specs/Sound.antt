@@ -39,6 +39,10 @@ pub record Zero (t : Tables) (p : ℕ) : Type 0 where
 abbrev pub Unused : Settings → Tables → Type 0
 Unused s t = (p : ℕ) → p < s .places .0 → (Occupied s t p → ⊥) → Zero t p
 
+-- document 01: the first n queue entries hold occupied places
+abbrev pub Entries : Settings → ℕ → Tables → Type 0
+Entries s n t = (i : ℕ) → i < n → Occupied s t (getD (t .queue) i 0)
+
 -- document 01: queue entries past the n files kept are 0
 abbrev pub Rest : Settings → ℕ → Tables → Type 0
 Rest s n t = (i : ℕ) → n ≤ i → i < s .places .0 → getD (t .queue) i 0 ≡ 0
@@ -50,7 +54,7 @@ pub record Linked (s : Settings) (t : Tables) : Type 0 where
 
 -- document 01: the queue holds each occupied place once; queue entries past the n files kept are 0
 pub record Queued (s : Settings) (n : ℕ) (t : Tables) : Type 0 where
-  pub entries : (i : ℕ) → i < n → Occupied s t (getD (t .queue) i 0)
+  pub entries : Entries s n t
   pub once : (p : ℕ) → Occupied s t p → times p (t .queue) n ≡ 1
   pub rest : Rest s n t
 
