@@ -14,10 +14,6 @@ module _ {a : Tally} {t : Tables} {entry entry′ free free′ : List ℕ} where
   sound-yes true v s = refl
   sound-yes false v s = absurd (v .no refl s)
 
-  pub unsound-no : (r : Bool) → Verdict a t entry entry′ free free′ r → (Sound a t → ⊥) → r ≡ false
-  unsound-no true v never = absurd (never (v .yes refl))
-  unsound-no false v never = refl
-
 -- two verdicts on one tally and the same tables are one answer
 pub one-verdict : {a : Tally} {t : Tables} {entry entry₁ entry₂ free free₁ free₂ : List ℕ} (r r′ : Bool) → Verdict a t entry entry₁ free free₁ r → Verdict a t entry entry₂ free free₂ r′ → r ≡ r′
 one-verdict true true v w = refl

@@ -10,13 +10,15 @@ use borrow.Author.Tests.{eq-eqb, ne-eqb}
 use lib.ListN.{length, getD, set, length-set}
 use lib.Seq.{getD-set-same, getD-set-other}
 use Rattle.amounts.specs.Limits.{noPlace}
+use Rattle.amounts.specs.declared.settings.Settings.{Settings}
 use Rattle.amounts.proofs.Tests.{same}
 use Rattle.queue.specs.Queue.{one}
 use Rattle.tables.specs.Tables.{Tables}
 use Rattle.tables.specs.Below.{sumBelow}
+use Rattle.tables.specs.Sound.{Occupied, Zero}
 use Rattle.tables.proofs.Counting.{sum-below-more}
 use Rattle.weighing.proofs.Answers.{answer-yes, answer-no}
-use Rattle.judge.specs.Passes.{Held, Blank, noted, Stackable, Stacked}
+use Rattle.judge.specs.Passes.{noted, Stackable, Stacked}
 
 pub noted-none : (entry : List ℕ) (p : ℕ) → getD entry p 0 ≡ noPlace → noted entry p ≡ 0
 noted-none entry p e = ap (λ b. one (not b)) (eq-eqb (getD entry p 0) noPlace e)
@@ -24,69 +26,63 @@ noted-none entry p e = ap (λ b. one (not b)) (eq-eqb (getD entry p 0) noPlace e
 pub noted-some : (entry : List ℕ) (p : ℕ) → (getD entry p 0 ≡ noPlace → ⊥) → noted entry p ≡ 1
 noted-some entry p ne = ap (λ b. one (not b)) (ne-eqb (getD entry p 0) noPlace ne)
 
-module _ (places catalogue : ℕ) (t : Tables) (entry free₀ : List ℕ) where
-  abbrev Holds : ℕ → Type 0
-  Holds p = Held places catalogue (t .place) (t .file) p
-
-  abbrev Empty : ℕ → Type 0
-  Empty p = Blank (t .file) (t .size) (t .cost) (t .freq) (t .key) (t .stamp) p
-
+module _ (s : Settings) (t : Tables) (entry free₀ : List ℕ) where
   -- of the first p places those occupied are in the index, the others are 0 and make up the stack
   pub record Stacking (free : List ℕ) (top p : ℕ) : Type 0 where
-    pub most : p ≤ places
-    pub held : (k : ℕ) → k < p → Holds k → getD entry k 0 ≡ noPlace → ⊥
-    pub unused : (k : ℕ) → k < p → (Holds k → ⊥) → Empty k
+    pub most : p ≤ s .places .0
+    pub indexed : (k : ℕ) → k < p → Occupied s t k → getD entry k 0 ≡ noPlace → ⊥
+    pub unused : (k : ℕ) → k < p → (Occupied s t k → ⊥) → Zero t k
     pub count : top + sumBelow (noted entry) p ≡ p
-    pub stacked : (i : ℕ) → i < top → (getD free i 0 < p) × (Holds (getD free i 0) → ⊥)
+    pub spare : (i : ℕ) → i < top → (getD free i 0 < p) × (Occupied s t (getD free i 0) → ⊥)
     pub apart : (i j : ℕ) → i < top → j < top → getD free i 0 ≡ getD free j 0 → i ≡ j
     pub long : length free ≡ length free₀
 
   pub stacking-as : {free free′ : List ℕ} {top top′ p : ℕ} → free ≡ free′ → top ≡ top′ → Stacking free′ top′ p → Stacking free top p
   stacking-as {free} {free′} {top} {top′} {p} e f g = subst (λ (l : List ℕ). Stacking l top p) (sym e) (subst (λ (k : ℕ). Stacking free′ k p) (sym f) g)
 
-  module _ (a : Stackable places catalogue t entry free₀) where
+  module _ (a : Stackable s t entry free₀) where
     pub stacking-start : Stacking free₀ 0 0
     unfolding sumBelow
     stacking-start = record {
       most = omega arith;
-      held = λ k l. absurd (omega arith);
+      indexed = λ k l. absurd (omega arith);
       unused = λ k l. absurd (omega arith);
       count = refl;
-      stacked = λ i l. absurd (omega arith);
+      spare = λ i l. absurd (omega arith);
       apart = λ i j l. absurd (omega arith);
       long = refl;
     }
 
-    pub stacking-done : (free : List ℕ) (top p : ℕ) → Stacking free top p → places ≤ p → Stacked places catalogue t entry free₀ free true
+    pub stacking-done : (free : List ℕ) (top p : ℕ) → Stacking free top p → s .places .0 ≤ p → Stacked s t entry free₀ free true
     stacking-done free top p g h =
-        let e : p ≡ places = omega (arith, g .most) in
-        let n : top + sumBelow (noted entry) places ≡ places = ap (λ (k : ℕ). top + sumBelow (noted entry) k) (sym e) ∙ g .count ∙ e in
+        let e : p ≡ s .places .0 = omega (arith, g .most) in
+        let n : top + sumBelow (noted entry) (s .places .0) ≡ s .places .0 = ap (λ (k : ℕ). top + sumBelow (noted entry) k) (sym e) ∙ g .count ∙ e in
         record {
-          exact = answer-yes (record { held = λ k l. g .held k (omega arith); unused = λ k l. g .unused k (omega arith) });
-          stack = λ _. record {
-            unused = λ i l. let x = g .stacked i (omega arith) in (omega (arith, x .0), x .1);
+          exact = answer-yes (record { indexed = λ k l. g .indexed k (omega arith); unused = λ k l. g .unused k (omega arith) });
+          spare = λ _. record {
+            unused = λ i l. let x = g .spare i (omega arith) in (omega (arith, x .0), x .1);
             apart = λ i j l m. g .apart i j (omega arith) (omega arith);
           };
           long = g .long;
         }
 
-    module _ (free : List ℕ) (top p : ℕ) (g : Stacking free top p) (h : p < places) where
+    module _ (free : List ℕ) (top p : ℕ) (g : Stacking free top p) (h : p < s .places .0) where
       -- an occupied place that is not in the index
-      pub stacking-lost : Holds p → getD entry p 0 ≡ noPlace → Stacked places catalogue t entry free₀ free false
-      stacking-lost w e = record { exact = answer-no (λ u. u .held p h w e); stack = λ z. absurd (true≢false (sym z)); long = g .long }
+      pub stacking-lost : Occupied s t p → getD entry p 0 ≡ noPlace → Stacked s t entry free₀ free false
+      stacking-lost w e = record { exact = answer-no (λ u. u .indexed p h w e); spare = λ z. absurd (true≢false (sym z)); long = g .long }
 
       -- an unused place that is not 0
-      pub stacking-dirty : (Holds p → ⊥) → (Empty p → ⊥) → Stacked places catalogue t entry free₀ free false
-      stacking-dirty w e = record { exact = answer-no (λ u. e (u .unused p h w)); stack = λ z. absurd (true≢false (sym z)); long = g .long }
+      pub stacking-dirty : (Occupied s t p → ⊥) → (Zero t p → ⊥) → Stacked s t entry free₀ free false
+      stacking-dirty w e = record { exact = answer-no (λ u. e (u .unused p h w)); spare = λ z. absurd (true≢false (sym z)); long = g .long }
 
       -- an occupied place
-      pub stacking-held : Holds p → (getD entry p 0 ≡ noPlace → ⊥) → Stacking free top (p + 1)
-      stacking-held w ne = record {
+      pub stacking-used : Occupied s t p → (getD entry p 0 ≡ noPlace → ⊥) → Stacking free top (p + 1)
+      stacking-used w ne = record {
         most = omega arith;
-        held = below-more _ _ (g .held) (λ _. ne);
+        indexed = below-more _ _ (g .indexed) (λ _. ne);
         unused = below-more _ _ (g .unused) (λ no. absurd (no w));
         count = omega (arith, sum-below-more (noted entry) p, noted-some entry p ne, g .count);
-        stacked = λ i l. (omega (arith, g .stacked i l .0), g .stacked i l .1);
+        spare = λ i l. (omega (arith, g .spare i l .0), g .spare i l .1);
         apart = g .apart;
         long = g .long;
       }
@@ -95,7 +91,7 @@ module _ (places catalogue : ℕ) (t : Tables) (entry free₀ : List ℕ) where
       room = omega (arith, g .count, g .long, a .free-long)
 
       -- an unused place goes on the stack
-      module _ (w : Holds p → ⊥) (z : Empty p) where
+      module _ (w : Occupied s t p → ⊥) (z : Zero t p) where
         at-top : getD (set free top p) top 0 ≡ p
         at-top = getD-set-same free top p 0 room
 
@@ -103,11 +99,11 @@ module _ (places catalogue : ℕ) (t : Tables) (entry free₀ : List ℕ) where
         below-top i l = getD-set-other free top i p 0 (omega arith)
 
         unnoted : noted entry p ≡ 0
-        unnoted = ⊎-elim (λ e. noted-none entry p e) (λ ne. absurd (w (a .held p h ne))) (same (getD entry p 0) noPlace)
+        unnoted = ⊎-elim (λ e. noted-none entry p e) (λ ne. absurd (w (a .occupied p h ne))) (same (getD entry p 0) noPlace)
 
         -- what was stacked before is below p
         new : (i : ℕ) → i < top → getD (set free top p) i 0 ≡ getD (set free top p) top 0 → ⊥
-        new i l e = omega (arith, below-top i l, at-top, g .stacked i l .0)
+        new i l e = omega (arith, below-top i l, at-top, g .spare i l .0)
 
         apart-top : (i j : ℕ) → i < top + 1 → j < top + 1 → getD (set free top p) i 0 ≡ getD (set free top p) j 0 → i ≡ j
         apart-top i j l m e = ⊎-elim
@@ -121,10 +117,10 @@ module _ (places catalogue : ℕ) (t : Tables) (entry free₀ : List ℕ) where
         pub stacking-free : Stacking (set free top p) (top + 1) (p + 1)
         stacking-free = record {
           most = omega arith;
-          held = below-more _ _ (g .held) (λ no. absurd (w no));
+          indexed = below-more _ _ (g .indexed) (λ no. absurd (w no));
           unused = below-more _ _ (g .unused) (λ _. z);
           count = omega (arith, sum-below-more (noted entry) p, unnoted, g .count);
-          stacked = below-more _ _ (λ i l. rw (below-top i l) (omega (arith, g .stacked i l .0), g .stacked i l .1)) (rw at-top (omega arith, w));
+          spare = below-more _ _ (λ i l. rw (below-top i l) (omega (arith, g .spare i l .0), g .spare i l .1)) (rw at-top (omega arith, w));
           apart = apart-top;
           long = length-set free top p ∙ g .long;
         }

@@ -9,7 +9,7 @@ use Rattle.tables.specs.Tables.{Tables, Long}
 use Rattle.tables.specs.declared.tally.Tally.{Tally}
 
 -- settings in range and tables long enough; the call's own lists have an entry for each place
-pub record Judgeable (a : Tally) (t : Tables) (entry free : List ℕ) : Type 0 where
+pub record Lent (a : Tally) (t : Tables) (entry free : List ℕ) : Type 0 where
   pub range : inRange (a .settings) ≡ true
   pub long : Long (a .settings .places .0) (a .settings .catalogue .0) t
   pub entry-long : a .settings .places .0 ≤ length entry

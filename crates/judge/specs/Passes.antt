@@ -1,112 +1,73 @@
--- What each pass of the judge decides: the conditions of document 01, "Tables and the tally", over just the lists that the pass reads. Assumes nothing.
+-- What each pass of the judge decides, in the words of soundness; a pass that reads some lists alone has [] for the others. Assumes nothing.
 use mathlib.Core.Path.{_≡_}
 use mathlib.Core.Logic.{_⊎_}
 use mathlib.Core.Bool.{Bool, true, false, not}
 use mathlib.Core.List.{List}
-use Prim.Native.Nat.{ℕ, _+_, _≤_, _<_}
+use Prim.Native.Nat.{ℕ, _≤_, _<_}
 use lib.Dec.{eqb}
 use lib.ListN.{length, getD}
 use Rattle.amounts.specs.Limits.{placesMost, noPlace}
+use Rattle.amounts.specs.declared.settings.Settings.{Settings}
 use Rattle.queue.specs.Queue.{one, total, times, Indexed, Whole}
 use Rattle.tables.specs.Tables.{Tables}
 use Rattle.tables.specs.Below.{sumBelow}
+use Rattle.tables.specs.Sound.{Occupied, Unused, Entries, Queued, Spare}
 use Rattle.weighing.specs.Weighing.{Exact, Covered}
 
 -- ---- The queue
 
--- a place is occupied: it and its file point at each other
-pub record Held (places catalogue : ℕ) (place file : List ℕ) (p : ℕ) : Type 0 where
-  pub known : getD file p 0 < catalogue
-  pub inside : p < places
-  pub back : getD place (getD file p 0) 0 ≡ p
-
--- document 01, "Needed lengths": of the two tables of links
-pub record Links (places catalogue : ℕ) (place file : List ℕ) : Type 0 where
-  pub place-long : catalogue ≤ length place
-  pub file-long : places ≤ length file
-
--- document 01: the first n entries of the queue hold each occupied place once
-pub record Single (n places catalogue : ℕ) (place file queue : List ℕ) : Type 0 where
-  pub entries : (i : ℕ) → i < n → Held places catalogue place file (getD queue i 0)
-  pub once : (p : ℕ) → Held places catalogue place file p → times p queue n ≡ 1
-
--- document 01: queue entries past the n files kept are 0
-abbrev pub Rest : ℕ → ℕ → List ℕ → Type 0
-Rest n places queue = (i : ℕ) → n ≤ i → i < places → getD queue i 0 ≡ 0
-
--- the index has nothing for a place, or the entry that holds it
-abbrev pub Says : ℕ → List ℕ → List ℕ → ℕ → Type 0
-Says n queue entry p = (getD entry p 0 ≡ noPlace) ⊎ ((getD entry p 0 < n) × (getD queue (getD entry p 0) 0 ≡ p))
-
--- the first n entries hold occupied places, and the index says which holds a place
-pub record Entered (n places catalogue : ℕ) (place file queue entry : List ℕ) : Type 0 where
-  pub entries : (i : ℕ) → i < n → Held places catalogue place file (getD queue i 0)
-  pub indexed : Indexed queue entry n
-  pub says : (p : ℕ) → p < places → Says n queue entry p
-
--- what the pass over the queue asks
-pub record Enterable (n places catalogue : ℕ) (place file queue entry : List ℕ) : Type 0 where
-  pub links : Links places catalogue place file
-  pub few : n ≤ places
-  pub most : places ≤ placesMost
-  pub queue-long : places ≤ length queue
-  pub entry-long : places ≤ length entry
+-- what the pass over the queue asks: n is not too many, and the lists that it reads are long enough
+pub record Indexable (s : Settings) (n : ℕ) (t : Tables) (entry : List ℕ) : Type 0 where
+  pub few : n ≤ s .places .0
+  pub most : s .places .0 ≤ placesMost
+  pub place-long : s .catalogue .0 ≤ length (t .place)
+  pub file-long : s .places .0 ≤ length (t .file)
+  pub queue-long : s .places .0 ≤ length (t .queue)
+  pub entry-long : s .places .0 ≤ length entry
 
 -- no place is noted in the index yet
-abbrev pub Unnoted : ℕ → List ℕ → Type 0
-Unnoted places entry = (p : ℕ) → p < places → getD entry p 0 ≡ noPlace
+abbrev pub Unnoted : Settings → List ℕ → Type 0
+Unnoted s entry = (p : ℕ) → p < s .places .0 → getD entry p 0 ≡ noPlace
 
--- what it leaves: an index where each place is held once, and no where one is not
-pub record Noted (n places catalogue : ℕ) (place file queue entry entry′ : List ℕ) (answer : Bool) : Type 0 where
-  pub yes : answer ≡ true → Entered n places catalogue place file queue entry′
-  pub no : answer ≡ false → Single n places catalogue place file queue → ⊥
+-- the index has nothing for a place, or the one of the first n entries that holds it
+abbrev pub Notes : ℕ → List ℕ → List ℕ → ℕ → Type 0
+Notes n queue entry p = (getD entry p 0 ≡ noPlace) ⊎ ((getD entry p 0 < n) × (getD queue (getD entry p 0) 0 ≡ p))
+
+-- the first n entries hold occupied places, each once, and the index says of each place which holds it
+pub record Index (s : Settings) (n : ℕ) (t : Tables) (entry : List ℕ) : Type 0 where
+  pub entries : Entries s n t
+  pub indexed : Indexed (t .queue) entry n
+  pub notes : (p : ℕ) → p < s .places .0 → Notes n (t .queue) entry p
+
+-- what it leaves: an index on yes, and on no a list of the call's own of which only the length is promised
+pub record Noted (s : Settings) (n : ℕ) (t : Tables) (entry entry′ : List ℕ) (answer : Bool) : Type 0 where
+  pub yes : answer ≡ true → Index s n t entry′
+  pub no : answer ≡ false → Queued s n t → ⊥
   pub long : length entry′ ≡ length entry
 
 -- ---- The places
-
--- the record at a place is 0
-pub record Blank (files sizes costs freqs keys stamps : List ℕ) (p : ℕ) : Type 0 where
-  pub file : getD files p 0 ≡ 0
-  pub size : getD sizes p 0 ≡ 0
-  pub cost : getD costs p 0 ≡ 0
-  pub freq : getD freqs p 0 ≡ 0
-  pub key : getD keys p 0 ≡ 0
-  pub stamp : getD stamps p 0 ≡ 0
-
--- the record at a place can be read
-pub record Legible (files sizes costs freqs keys stamps : List ℕ) (p : ℕ) : Type 0 where
-  pub file : p < length files
-  pub size : p < length sizes
-  pub cost : p < length costs
-  pub freq : p < length freqs
-  pub key : p < length keys
-  pub stamp : p < length stamps
 
 -- 1 for a place that the index has an entry for
 abbrev pub noted : List ℕ → ℕ → ℕ
 noted entry p = one (not (eqb (getD entry p 0) noPlace))
 
 -- what the pass over the places asks: whatever the index has an entry for is occupied
-pub record Stackable (places catalogue : ℕ) (t : Tables) (entry free : List ℕ) : Type 0 where
-  pub long : Covered places catalogue t
-  pub most : places ≤ placesMost
-  pub entry-long : places ≤ length entry
-  pub free-long : places ≤ length free
-  pub held : (p : ℕ) → p < places → (getD entry p 0 ≡ noPlace → ⊥) → Held places catalogue (t .place) (t .file) p
+pub record Stackable (s : Settings) (t : Tables) (entry free : List ℕ) : Type 0 where
+  pub long : Covered (s .places .0) (s .catalogue .0) t
+  pub most : s .places .0 ≤ placesMost
+  pub entry-long : s .places .0 ≤ length entry
+  pub free-long : s .places .0 ≤ length free
+  pub occupied : (p : ℕ) → p < s .places .0 → (getD entry p 0 ≡ noPlace → ⊥) → Occupied s t p
 
 -- document 01: the index has each occupied place, and unused places are 0
-pub record Used (places catalogue : ℕ) (t : Tables) (entry : List ℕ) : Type 0 where
-  pub held : (p : ℕ) → p < places → Held places catalogue (t .place) (t .file) p → getD entry p 0 ≡ noPlace → ⊥
-  pub unused : (p : ℕ) → p < places → (Held places catalogue (t .place) (t .file) p → ⊥) → Blank (t .file) (t .size) (t .cost) (t .freq) (t .key) (t .stamp) p
+pub record Used (s : Settings) (t : Tables) (entry : List ℕ) : Type 0 where
+  pub indexed : (p : ℕ) → p < s .places .0 → Occupied s t p → getD entry p 0 ≡ noPlace → ⊥
+  pub unused : Unused s t
 
--- the first places - n entries of the stack are unused places, each once
-pub record Stack (n places catalogue : ℕ) (place file free : List ℕ) : Type 0 where
-  pub unused : (i : ℕ) → i + n < places → (getD free i 0 < places) × (Held places catalogue place file (getD free i 0) → ⊥)
-  pub apart : (i j : ℕ) → i + n < places → j + n < places → getD free i 0 ≡ getD free j 0 → i ≡ j
-
-pub record Stacked (places catalogue : ℕ) (t : Tables) (entry free free′ : List ℕ) (answer : Bool) : Type 0 where
-  pub exact : Exact (Used places catalogue t entry) answer
-  pub stack : answer ≡ true → Stack (sumBelow (noted entry) places) places catalogue (t .place) (t .file) free′
+-- what it leaves: the stack on yes, and on no a list of the call's own of which only the length is promised
+pub record Stacked (s : Settings) (t : Tables) (entry free free′ : List ℕ) (answer : Bool) : Type 0 where
+  pub exact : Exact (Used s t entry) answer
+  pub spare : answer ≡ true → Spare s (sumBelow (noted entry) (s .places .0)) t free′
   pub long : length free′ ≡ length free
 
 -- ---- The stamps

@@ -13,10 +13,11 @@ use weighing::shelf_agrees;
 use weighing::totals_agree;
 ghost use Rattle.tables.specs.Tables.{tables};
 ghost use Rattle.tables.specs.Sound.{Verdict};
-ghost use Rattle.judge.specs.Judge.{Judgeable};
+ghost use Rattle.judge.specs.Judge.{Lent};
 
 // Whether the tally and the tables are sound.
 // Where they are, the lists of the call are made ready: which queue entry holds a place, and the stack of free places.
+// Where they are not, what these lists hold is not promised: a call that is refused reads them no more.
 pub fn is_sound(
     a: Tally,
     place: &[u16],
@@ -30,27 +31,24 @@ pub fn is_sound(
     entry: &mut [u16],
     free: &mut [u16],
 ) -> bool
-    requires { ⌜ Judgeable a (tables (now place) (now file) (now size) (now cost) (now freq) (now key) (now stamp) (now queue)) (now entry) (now free) ⌝ }
+    requires { ⌜ Lent a (tables (now place) (now file) (now size) (now cost) (now freq) (now key) (now stamp) (now queue)) (now entry) (now free) ⌝ }
     ensures { λ r. ⌜ Verdict a (tables (now (place .entry)) (now (file .entry)) (now (size .entry)) (now (cost .entry)) (now (freq .entry)) (now (key .entry)) (now (stamp .entry)) (now (queue .entry))) (now (entry .entry)) (now (entry .exit)) (now (free .entry)) (now (free .exit)) r ⌝ }
 {
     if !totals_agree(a) {
         return false;
     }
-    if a.settings.places.0 < a.files_kept {
-        return false;
-    }
     let n = a.files_kept as usize;
-    let places = a.settings.places.0 as usize;
-    let catalogue = a.settings.catalogue.0 as usize;
-    if !index_entries(n, places, catalogue, place, file, queue, entry) {
+    if a.settings.places.count() < n {
         return false;
     }
-    if !rest_zero(n, places, queue) {
+    if !index_entries(a.settings, n, place, file, queue, entry) {
+        return false;
+    }
+    if !rest_zero(a.settings, n, queue) {
         return false;
     }
     if !stack_unused(
-        places,
-        catalogue,
+        a.settings,
         place,
         file,
         size,

@@ -17,7 +17,7 @@ use Rattle.method.proofs.Sound as method
 use Rattle.method.proofs.Agreement.{zeros-agreed}
 use Rattle.tables.specs.Tables.{Tables, shelfOf, cleared, filled}
 use Rattle.tables.specs.Tally.{storeOf, policyIn, freshTally}
-use Rattle.tables.specs.Sound.{Occupied, Sound}
+use Rattle.tables.specs.Sound.{Occupied, Zero, Sound}
 use Rattle.tables.proofs.Lists.{at-filled}
 use Rattle.tables.proofs.Shelves.{fresh-shelf}
 use Rattle.tables.proofs.Ranges.{bounded}
@@ -35,6 +35,11 @@ module _ (s : Settings) (t : Tables) (h : inRange s ≡ true) where
   zero-at : (l : List ℕ) (p : ℕ) → p < s .places .0 → getD (filled (s .places .0) 0 l) p 0 ≡ 0
   zero-at l p b = at-filled (s .places .0) 0 l p b
 
+  zero : (p : ℕ) → p < s .places .0 → Zero u p
+  zero p b =
+      let z : (l : List ℕ) → getD (filled (s .places .0) 0 l) p 0 ≡ 0 = λ l. zero-at l p b in
+      record { file = z (t .file); size = z (t .size); cost = z (t .cost); freq = z (t .freq); key = z (t .key); stamp = z (t .stamp) }
+
   shelf-is : shelfOf (s .catalogue .0) u ≡ fresh (storeOf s) .shelf
   shelf-is = fresh-shelf (s .places .0) (s .catalogue .0) t
 
@@ -44,7 +49,7 @@ module _ (s : Settings) (t : Tables) (h : inRange s ≡ true) where
     few = omega arith;
     linked = record {
       out = λ f l. inl (unplaced f l);
-      unused = λ p l _. record { file = zero-at (t .file) p l; size = zero-at (t .size) p l; cost = zero-at (t .cost) p l; freq = zero-at (t .freq) p l; key = zero-at (t .key) p l; stamp = zero-at (t .stamp) p l };
+      unused = λ p l _. zero p l;
     };
     queued = record {
       entries = λ i l. absurd (omega arith);

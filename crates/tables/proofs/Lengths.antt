@@ -25,27 +25,35 @@ pub and-right : (a b : Bool) → a && b ≡ true → b ≡ true
 and-right true b e = e
 and-right false b e = let z : _≡_ {A = ℕ} 0 1 = cc in absurd (let h : ⊥ = omega arith in h)
 
--- tables that pass the test are long enough
-long-nums : (p n a b c d e f g h : ℕ) → longEnough p n a b c d e f g h ≡ true → (n ≤ a) × (p ≤ b) × (p ≤ c) × (p ≤ d) × (p ≤ e) × (p ≤ f) × (p ≤ g) × (p ≤ h)
-unfolding longEnough
-long-nums p n a b c d e f g h q =
-    let y8 = leb p h in
-    let y7 = leb p g && y8 in
-    let y6 = leb p f && y7 in
-    let y5 = leb p e && y6 in
-    let y4 = leb p d && y5 in
-    let y3 = leb p c && y4 in
-    let y2 = leb p b && y3 in
-    let e2 = and-right (leb n a) y2 q in
-    let e3 = and-right (leb p b) y3 e2 in
-    let e4 = and-right (leb p c) y4 e3 in
-    let e5 = and-right (leb p d) y5 e4 in
-    let e6 = and-right (leb p e) y6 e5 in
-    let e7 = and-right (leb p f) y7 e6 in
-    let e8 = and-right (leb p g) y8 e7 in
-    (leb-true n a (and-left (leb n a) y2 q), leb-true p b (and-left (leb p b) y3 e2), leb-true p c (and-left (leb p c) y4 e3), leb-true p d (and-left (leb p d) y5 e4), leb-true p e (and-left (leb p e) y6 e5), leb-true p f (and-left (leb p f) y7 e6), leb-true p g (and-left (leb p g) y8 e7), leb-true p h e8)
+-- a table that is long enough, and the tests behind it
+both : (x y : ℕ) (z : Bool) → leb x y && z ≡ true → (x ≤ y) × (z ≡ true)
+both x y z e = (leb-true x y (and-left (leb x y) z e), and-right (leb x y) z e)
+
+-- tables that pass the test are long enough, and where one is not the test fails
+module _ (p n a b c d e f g h : ℕ) where
+  abbrev Nums : Type 0
+  Nums = (n ≤ a) × (p ≤ b) × (p ≤ c) × (p ≤ d) × (p ≤ e) × (p ≤ f) × (p ≤ g) × (p ≤ h)
+
+  long-nums : longEnough p n a b c d e f g h ≡ true → Nums
+  unfolding longEnough
+  long-nums q =
+      let q1 = both n a _ q in
+      let q2 = both p b _ (q1 .1) in
+      let q3 = both p c _ (q2 .1) in
+      let q4 = both p d _ (q3 .1) in
+      let q5 = both p e _ (q4 .1) in
+      let q6 = both p f _ (q5 .1) in
+      let q7 = both p g _ (q6 .1) in
+      (q1 .0, q2 .0, q3 .0, q4 .0, q5 .0, q6 .0, q7 .0, leb-true p h (q7 .1))
+
+  pub short : (Nums → ⊥) → false ≡ longEnough p n a b c d e f g h
+  short no-good = go (longEnough p n a b c d e f g h) refl
+    where
+      go : (t : Bool) → longEnough p n a b c d e f g h ≡ t → false ≡ t
+      go true q = absurd (no-good (long-nums q))
+      go false q = refl
 
 pub long-of : (p n : ℕ) (t : Tables) → isLong p n t ≡ true → Long p n t
 long-of p n t e =
-    let l = long-nums p n _ _ _ _ _ _ _ _ e in
+    let l = long-nums _ _ _ _ _ _ _ _ _ _ e in
     record { place = l .0; file = l .1; size = l .2; cost = l .3; freq = l .4; key = l .5; stamp = l .6; queue = l .7 }

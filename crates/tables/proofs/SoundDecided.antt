@@ -6,10 +6,9 @@ use Prim.Native.Nat.{ℕ, suc, _+_, _*_, _≤_, _<_}
 use lib.ListN.{length, getD}
 use Rattle.amounts.specs.Limits.{sizeMost, costMost, requestsMost, noPlace}
 use Rattle.amounts.specs.Worth.{Valued, worthMost}
-use Rattle.amounts.specs.Order.{lowerOf}
 use Rattle.amounts.specs.declared.settings.Settings.{Settings}
 use Rattle.amounts.proofs.Tests.{same}
-use Rattle.queue.specs.Queue.{times, above, Ordered}
+use Rattle.queue.specs.Queue.{lowerAt, times, above, Ordered}
 use Rattle.method.specs.Shelf.{Kept, Slot, none, kept, Shelf, sum, bytes, files, product, Each}
 use Rattle.method.specs.Method as method
 use Rattle.method.specs.Totals.{Totals, Agreed}
@@ -90,7 +89,7 @@ module _ (s : Settings) (t : Tables) where
 ordered : (queue keys stamps : List ℕ) (n : ℕ) → Decided (Ordered queue keys stamps n)
 ordered queue keys stamps n =
     decide-as (λ f. record { order = λ i p l. f i l p }) (λ o. λ i l p. o .order i p l)
-    (all-below (λ i. decide-if (decide-lt 0 i) (decide-false (lowerOf (getD keys (getD queue i 0) 0) (getD stamps (getD queue i 0) 0) (getD keys (getD queue (above i) 0) 0) (getD stamps (getD queue (above i) 0) 0)))) n)
+    (all-below (λ i. decide-if (decide-lt 0 i) (decide-false (lowerAt keys stamps (getD queue i 0) (getD queue (above i) 0)))) n)
 
 -- ---- the shelf
 

@@ -1,5 +1,5 @@
 -- A fresh start by its two tests, and what it leaves. Assumes nothing.
-use mathlib.Core.Path.{_≡_, refl}
+use mathlib.Core.Path.{_≡_}
 use mathlib.Core.Bool.{true, false}
 use Rattle.amounts.specs.Settings.{inRange}
 use Rattle.amounts.specs.declared.settings.Settings.{Settings}

@@ -3,12 +3,12 @@ use mathlib.Core.Path.{_≡_, refl, sym, ap, _∙_, subst}
 use mathlib.Core.Bool.{Bool, true, false}
 use mathlib.Core.List.{List}
 use Prim.Native.Nat.{ℕ}
-use lib.ListN.{getD, replicate}
+use lib.ListN.{getD, take, drop, replicate}
 use Rattle.amounts.specs.Limits.{pick, noPlace}
 use Rattle.amounts.specs.Settings.{inRange}
 use Rattle.amounts.specs.declared.settings.Settings.{Settings}
 use Rattle.card.proofs.Cases.{answerOn, bad-on}
-use Rattle.tables.specs.Tables.{Tables, tables, needed, beyond, cleared}
+use Rattle.tables.specs.Tables.{Tables, tables, needed, beyond, filled, cleared}
 use Rattle.tables.specs.Tally.{freshTally}
 use Rattle.tables.specs.Start.{startCard, long, startAnswer, startTables, Freshly}
 use Rattle.tables.specs.declared.tally.Tally.{Tally}
@@ -69,11 +69,13 @@ fresh-one-answer s t r r′ u u′ f g = (one-card r r′ (f .answer ∙ sym (g 
 needed-cleared : (p n : ℕ) (t : Tables)
     → needed p n (cleared p n t) ≡ tables (replicate n noPlace) (replicate p 0) (replicate p 0) (replicate p 0) (replicate p 0) (replicate p 0) (replicate p 0) (replicate p 0)
 needed-cleared p n t =
-    tables-eq (take-filled n noPlace (t .place)) (take-filled p 0 (t .file)) (take-filled p 0 (t .size)) (take-filled p 0 (t .cost)) (take-filled p 0 (t .freq)) (take-filled p 0 (t .key)) (take-filled p 0 (t .stamp)) (take-filled p 0 (t .queue))
+    let z : (l : List ℕ) → take p (filled p 0 l) ≡ replicate p 0 = take-filled p 0 in
+    tables-eq (take-filled n noPlace (t .place)) (z (t .file)) (z (t .size)) (z (t .cost)) (z (t .freq)) (z (t .key)) (z (t .stamp)) (z (t .queue))
 
 beyond-cleared : (p n : ℕ) (t : Tables) → beyond p n (cleared p n t) ≡ beyond p n t
 beyond-cleared p n t =
-    tables-eq (drop-filled n noPlace (t .place)) (drop-filled p 0 (t .file)) (drop-filled p 0 (t .size)) (drop-filled p 0 (t .cost)) (drop-filled p 0 (t .freq)) (drop-filled p 0 (t .key)) (drop-filled p 0 (t .stamp)) (drop-filled p 0 (t .queue))
+    let z : (l : List ℕ) → drop p (filled p 0 l) ≡ drop p l = drop-filled p 0 in
+    tables-eq (drop-filled n noPlace (t .place)) (z (t .file)) (z (t .size)) (z (t .cost)) (z (t .freq)) (z (t .key)) (z (t .stamp)) (z (t .queue))
 
 module _ (s : Settings) (t : Tables) (r : Started) (u : Tables) (f : Freshly s t r u) where
   -- with settings in range and tables long enough the answer is the new tally and the tables are cleared

@@ -5,7 +5,7 @@ use Prim.Native.Nat.{ℕ, zero, suc, _≤_, _<_}
 use native.Mathlib.Omega.{arith}
 use lib.ListN.{getD}
 use Rattle.amounts.specs.Limits.{noPlace}
-use Rattle.amounts.specs.Worth.{worthOf, productOf}
+use Rattle.amounts.specs.Worth.{Valued, worthOf, productOf}
 use Rattle.queue.specs.Queue.{total, times}
 use Rattle.method.specs.Shelf.{Kept, Shelf, sum, Each}
 use Rattle.method.specs.Promise as promise
@@ -69,13 +69,16 @@ rest zero h l = absurd (omega arith)
 rest (suc zero) h l = refl
 rest (suc (suc i)) h l = absurd (omega arith)
 
+in-range : Valued (file .size) (file .cost)
+in-range = record { size-least = omega arith; size-most = omega arith; cost-least = omega arith; cost-most = omega arith }
+
 in-sums : promise.SoundAt (policyIn workedSettings) (storeOf workedSettings) (stateOf workedTally workedTables) 2
 unfolding shelfOf slotOf sum productOf worthOf
 in-sums = record {
   slots = refl;
   bytes = omega arith;
   files = omega arith;
-  fine = each (promise.Fine (policyIn workedSettings)) (record { valued = record { size-least = omega arith; size-most = omega arith; cost-least = omega arith; cost-most = omega arith }; freq = omega arith; once = tt });
+  fine = each (promise.Fine (policyIn workedSettings)) (record { valued = in-range; freq = omega arith; once = tt });
   stamps = each (λ r. r .stamp < 2) (omega arith);
   apart = apart;
   freqs = omega arith;

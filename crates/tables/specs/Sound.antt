@@ -11,7 +11,7 @@ use Rattle.queue.specs.Queue.{times, Ordered, Indexed}
 use Rattle.method.specs.Shelf.{bytes, files}
 use Rattle.method.specs.Totals.{Agreed}
 use Rattle.method.specs.Promise.{SoundAt}
-use Rattle.tables.specs.Tables.{Tables, shelfOf}
+use Rattle.tables.specs.Tables.{Tables}
 use Rattle.tables.specs.Tally.{storeOf, policyIn, totalsOf, stateOf}
 use Rattle.tables.specs.declared.tally.Tally.{Tally}
 
@@ -35,16 +35,28 @@ pub record Zero (t : Tables) (p : ℕ) : Type 0 where
   pub key : getD (t .key) p 0 ≡ 0
   pub stamp : getD (t .stamp) p 0 ≡ 0
 
+-- document 01: unused places are 0
+abbrev pub Unused : Settings → Tables → Type 0
+Unused s t = (p : ℕ) → p < s .places .0 → (Occupied s t p → ⊥) → Zero t p
+
+-- document 01: the first n queue entries hold occupied places
+abbrev pub Entries : Settings → ℕ → Tables → Type 0
+Entries s n t = (i : ℕ) → i < n → Occupied s t (getD (t .queue) i 0)
+
+-- document 01: queue entries past the n files kept are 0
+abbrev pub Rest : Settings → ℕ → Tables → Type 0
+Rest s n t = (i : ℕ) → n ≤ i → i < s .places .0 → getD (t .queue) i 0 ≡ 0
+
 -- document 01: places and file numbers point at each other both ways; unused places are 0
 pub record Linked (s : Settings) (t : Tables) : Type 0 where
   pub out : (f : ℕ) → f < s .catalogue .0 → (getD (t .place) f 0 ≡ noPlace) ⊎ At s t f (getD (t .place) f 0)
-  pub unused : (p : ℕ) → p < s .places .0 → (Occupied s t p → ⊥) → Zero t p
+  pub unused : Unused s t
 
 -- document 01: the queue holds each occupied place once; queue entries past the n files kept are 0
 pub record Queued (s : Settings) (n : ℕ) (t : Tables) : Type 0 where
-  pub entries : (i : ℕ) → i < n → Occupied s t (getD (t .queue) i 0)
+  pub entries : Entries s n t
   pub once : (p : ℕ) → Occupied s t p → times p (t .queue) n ≡ 1
-  pub rest : (i : ℕ) → n ≤ i → i < s .places .0 → getD (t .queue) i 0 ≡ 0
+  pub rest : Rest s n t
 
 pub record Sound (a : Tally) (t : Tables) : Type 0 where
   -- hits + admitted + passed = requests, evicted + files kept = admitted, and the totals against their bounds
@@ -72,7 +84,8 @@ pub record Desk (a : Tally) (t : Tables) (entry free : List ℕ) : Type 0 where
   pub indexed : Indexed (t .queue) entry (a .«files_kept»)
   pub spare : Spare (a .settings) (a .«files_kept») t free
 
--- what the judge promises: yes exactly for sound tables, and then the call's own lists are ready; their lengths stay
+-- what the judge promises: yes exactly for sound tables, and then the call's own lists are ready
+-- on no only their lengths are promised: they are lists of the call's own, in no caller's memory, and a call that is refused reads them no more
 pub record Verdict (a : Tally) (t : Tables) (entry entry′ free free′ : List ℕ) (answer : Bool) : Type 0 where
   pub yes : answer ≡ true → Sound a t
   pub no : answer ≡ false → Sound a t → ⊥

@@ -59,8 +59,8 @@ pub fn fresh(
     if !settings.in_range() {
         return Started::Refused(Refusal::Setting);
     }
-    let places = settings.places.0 as usize;
-    let catalogue = settings.catalogue.0 as usize;
+    let places = settings.places.count();
+    let catalogue = settings.catalogue.count();
     if !long_enough(
         places,
         catalogue,

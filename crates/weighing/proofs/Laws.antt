@@ -1,39 +1,38 @@
--- The tests of a record and of a file over plain numbers. Assumes nothing.
-use mathlib.Core.Path.{_≡_, sym, ap, subst}
+-- The tests of a record, of a file and of the sums, over plain numbers. Assumes nothing.
+use mathlib.Core.Path.{_≡_, refl, sym, _∙_}
 use mathlib.Core.Logic.{inr, ⊎-elim}
-use mathlib.Core.Bool.{Bool, true}
-use Prim.Native.Nat.{ℕ, _-_, _≤_, _<_}
+use mathlib.Core.Bool.{Bool, true, false}
+use Prim.Native.Nat.{ℕ, _-_, _*_, _≤_, _<_}
 use native.Mathlib.Omega.{arith}
 use lib.Dec.{eqb, leb}
 use lib.ListN.{getD}
-use borrow.Author.Tests.{eqb-true, eq-eqb, ne-eqb, leb-true, le-leb}
-use Rattle.amounts.specs.Limits.{pick, noPlace}
+use borrow.Author.Tests.{eqb-true, eq-eqb, leb-true, le-leb}
+use Rattle.amounts.specs.Limits.{noPlace}
+use Rattle.amounts.specs.Worth.{worthMost}
 use Rattle.amounts.specs.declared.settings.Settings.{Settings}
-use Rattle.method.specs.Shelf.{Kept, product}
-use Rattle.method.specs.Method.{gds, gdsf, policyOf}
+use Rattle.method.specs.Shelf.{Kept, Shelf, sum, bytes, files, product}
+use Rattle.method.specs.Method.{Policy, policyOf}
 use Rattle.method.specs.Promise.{Once, Fine}
 use Rattle.tables.specs.Tables.{Tables, recordAt}
-use Rattle.weighing.specs.Weighing.{Exact, Right, Lawful}
-use Rattle.weighing.proofs.Answers.{answer-yes, answer-test, answer-as}
+use Rattle.tables.specs.Tally.{policyIn}
+use Rattle.tables.specs.declared.tally.Tally.{Tally}
+use Rattle.weighing.specs.Weighing.{Exact, Right, Lawful, Balanced}
+use Rattle.weighing.proofs.Answers.{answer-yes, answer-test, answer-call, answer-as}
 
 -- ---- a frequency is exactly 1 for policy 1
 
-pub once-one : (policy f : ℕ) → policy ≡ 1 → Exact (Once (policyOf policy) f) (eqb f 1)
-once-one policy f e =
-    subst (λ p. Exact (Once p f) (eqb f 1)) (sym (ap (λ b. pick b gds gdsf) (eq-eqb policy 1 e)))
-    (answer-test (eqb f 1) (λ b. eqb-true f 1 b) (λ h. eq-eqb f 1 h))
+pub once-one : (policy f : ℕ) → eqb policy 1 ≡ true → Exact (Once (policyOf policy) f) (eqb f 1)
+once-one policy f e = rw e (answer-test (eqb f 1) (λ b. eqb-true f 1 b) (λ h. eq-eqb f 1 h))
 
-pub once-other : (policy f : ℕ) → (policy ≡ 1 → ⊥) → Exact (Once (policyOf policy) f) true
-once-other policy f ne = subst (λ p. Exact (Once p f) true) (sym (ap (λ b. pick b gds gdsf) (ne-eqb policy 1 ne))) (answer-yes tt)
+pub once-other : (policy f : ℕ) → eqb policy 1 ≡ false → Exact (Once (policyOf policy) f) true
+once-other policy f e = rw e (answer-yes tt)
 
 -- ---- a record
 
-module _ (policy l n : ℕ) (r : Kept) where
-  pub right-last : Fine (policyOf policy) r → r .freq ≤ n → r .stamp < n → l ≤ r .key → (m : ℕ) → m ≡ product r → Exact (Right policy l n r) (leb (r .key - l) m)
-  right-last f a b d m e =
-      answer-test (leb (r .key - l) m)
-      (λ h. record { fine = f; few = a; stamp = b; key-least = d; key-most = omega (arith, leb-true (r .key - l) m h) })
-      (λ w. le-leb (r .key - l) m (omega (arith, w .key-most)))
+pub right-last : {p : Policy} {l n : ℕ} {r : Kept} → Fine p r → r .freq ≤ n → r .stamp < n → l ≤ r .key → {d m : ℕ} {b : Bool} → d ≡ r .key - l → m ≡ product r → b ≡ leb d m → Exact (Right p l n r) b
+right-last f a b c {d} {m} u v e =
+    answer-call e (λ h. record { fine = f; few = a; stamp = b; key-least = c; key-most = omega (arith, leb-true d m h) })
+    (λ w. le-leb d m (omega (arith, w .key-most)))
 
 -- ---- a file
 
@@ -45,7 +44,19 @@ module _ (s : Settings) (l n : ℕ) (t : Tables) (f : ℕ) (has : getD (t .place
   lawful-file ne w = ⊎-elim has (λ x. ne (x .0 .file)) w
 
   -- a file that has a place which points back at it is lawful where its record is right
-  pub lawful-as : {b : Bool} → getD (t .place) f 0 < s .places .0 → getD (t .file) (getD (t .place) f 0) 0 ≡ f
-      → Exact (Right (s .policy .0) l n (recordAt t (getD (t .place) f 0))) b → Exact (Lawful s l n t f) b
-  lawful-as i e x =
-      answer-as x (λ r. inr (record { inside = i; file = e }, r)) (λ w. ⊎-elim (λ z. absurd (has z)) (λ y. y .1) w)
+  pub lawful-as : {b : Bool} → f < s .catalogue .0 → getD (t .place) f 0 < s .places .0 → getD (t .file) (getD (t .place) f 0) 0 ≡ f
+      → Exact (Right (policyIn s) l n (recordAt t (getD (t .place) f 0))) b → Exact (Lawful s l n t f) b
+  lawful-as k i e x =
+      answer-as x (λ r. inr (record { known = k; inside = i; place = refl; file = e }, r)) (λ w. ⊎-elim (λ z. absurd (has z)) (λ y. y .1) w)
+
+-- ---- the sums
+
+-- by the tests, the last of inflation and the products
+pub balanced-last : (a : Tally) (s : Shelf) {n m d w : ℕ} {b : Bool} → files s ≡ a .«files_kept» → n ≡ bytes s → eqb n (a .«bytes_kept» .0) ≡ true → leb n (a .settings .capacity .0) ≡ true
+    → sum (λ r. r .freq) s ≤ a .requests → m ≡ a .requests * worthMost → leb (a .inflation .0) m ≡ true → d ≡ m - a .inflation .0 → w ≡ sum product s → b ≡ leb w d → Exact (Balanced a s) b
+balanced-last a s {n} {m} {d} {w} f y k c g o l u v e =
+    let kept : n ≡ a .«bytes_kept» .0 = eqb-true n (a .«bytes_kept» .0) k in
+    let most = leb-true (a .inflation .0) m l in
+    answer-call e
+    (λ h. record { files = f; bytes = sym y ∙ kept; fits = omega (arith, leb-true n (a .settings .capacity .0) c); freqs = g; total = omega (arith, leb-true w d h) })
+    (λ x. le-leb w d (omega (arith, x .total)))

@@ -1,69 +1,68 @@
--- The totals of a tally: products that fit a word, and the parts that the agreement of the totals is made of. Assumes nothing.
+-- The totals of a tally: an amount by its tests, and the parts that the agreement of the totals is made of. Assumes nothing.
 use mathlib.Core.Path.{_≡_}
-use Prim.Native.Nat.{ℕ, _+_, _-_, _*_, _≤_}
-use lib.Dec.{eqb}
-use borrow.Author.Tests.{eqb-true, eq-eqb}
-use native.Mathlib.Omega.{arith}
-use native.Mathlib.Nat.{mul-le-mul-left}
-use Rattle.amounts.specs.Limits.{requestsMost, sizeMost, costMost}
+use mathlib.Core.Bool.{Bool, true}
+use Prim.Native.Nat.{ℕ, _+_, _*_, _≤_}
+use lib.Dec.{leb}
+use borrow.Author.Tests.{leb-true, le-leb}
+use Rattle.amounts.specs.Limits.{totalOf, costMost}
 use Rattle.tables.specs.declared.tally.Tally.{Tally}
-use Rattle.weighing.specs.Weighing.{Exact, Within, Counts, Numbers}
-use Rattle.weighing.proofs.Answers.{answer-test}
+use Rattle.tables.proofs.Lengths.{and-left, and-right}
+use Rattle.weighing.specs.Weighing.{Exact, Amount, Counted, Numbers}
+use Rattle.weighing.proofs.Answers.{answer-call}
 
-pub small-product : (h m : ℕ) → h ≤ requestsMost → m ≤ sizeMost → h * m ≤ requestsMost * sizeMost
-small-product h m a b = omega (arith, mul-le-mul-left h b)
+-- ---- a total that so many files can come to
 
--- the last test of the outcomes
-pub counts-last : (a : Tally) → a .requests ≤ requestsMost → a .hits + a .admitted + a .passed ≡ a .requests → a .evicted ≤ a .admitted
-    → Exact (Counts a) (eqb (a .«files_kept») (a .admitted - a .evicted))
-counts-last a h o e =
-    answer-test _ (λ b. record { few = h; outcomes = o; evicted = omega (arith, eqb-true (a .«files_kept») (a .admitted - a .evicted) b) })
-    (λ w. eq-eqb (a .«files_kept») (a .admitted - a .evicted) (omega (arith, w .evicted)))
+total-least : (m n t : ℕ) → totalOf m n t ≡ true → n ≤ t
+unfolding totalOf
+total-least m n t e = leb-true n t (and-left (leb n t) (leb t (n * m)) e)
 
--- the totals agree where the outcomes do and both amounts are within their bounds
+total-most : (m n t : ℕ) → totalOf m n t ≡ true → t ≤ n * m
+unfolding totalOf
+total-most m n t e = leb-true t (n * m) (and-right (leb n t) (leb t (n * m)) e)
+
+total : (m n t : ℕ) → n ≤ t → t ≤ n * m → totalOf m n t ≡ true
+unfolding totalOf
+total m n t a b = rw (le-leb n t a, le-leb t (n * m) b)
+
+-- ---- an amount, of bytes or of cost
+
+module _ {most hits requests part whole : ℕ} where
+  -- by the last of its tests
+  pub amount-last : {r : Bool} → totalOf most hits part ≡ true → leb part whole ≡ true → r ≡ totalOf most requests whole → Exact (Amount most hits requests part whole) r
+  amount-last h w e = answer-call e (λ b. record { hit = h; within = leb-true part whole w; asked = b }) (λ x. x .asked)
+
+  amount : hits ≤ part → part ≤ hits * most → part ≤ whole → requests ≤ whole → whole ≤ requests * most → Amount most hits requests part whole
+  amount a b c d e = record { hit = total most hits part a b; within = c; asked = total most requests whole d e }
+
+-- ---- the totals agree where the outcomes do and both amounts are within their bounds
+
 module _ (a : Tally) where
-  abbrev pub Asked : Type 0
-  Asked = Within (a .hits) (a .requests) (a .«hit_bytes» .0) (a .«bytes_asked» .0) sizeMost
-
   abbrev pub Spent : Type 0
-  Spent = Within (a .hits) (a .requests) (a .«hit_cost» .0) (a .«cost_asked» .0) costMost
+  Spent = Amount costMost (a .hits) (a .requests) (a .«hit_cost» .0) (a .«cost_asked» .0)
 
-  pub numbers-counts : Numbers a → Counts a
-  numbers-counts h = record { few = h .few; outcomes = h .agreed .outcomes; evicted = h .agreed .evicted }
-
-  pub numbers-asked : Numbers a → Asked
-  numbers-asked h = record {
-    hit-least = h .agreed .hit-bytes-least;
-    hit-most = h .agreed .hit-bytes-most;
-    hit-asked = h .agreed .hit-bytes-asked;
-    asked-least = h .agreed .bytes-least;
-    asked-most = h .agreed .bytes-most;
-  }
+  pub numbers-counted : Numbers a → Counted a
+  numbers-counted h =
+      let g = h .agreed in
+      record { few = h .few; outcomes = g .outcomes; bytes = amount (g .hit-bytes-least) (g .hit-bytes-most) (g .hit-bytes-asked) (g .bytes-least) (g .bytes-most) }
 
   pub numbers-spent : Numbers a → Spent
-  numbers-spent h = record {
-    hit-least = h .agreed .hit-cost-least;
-    hit-most = h .agreed .hit-cost-most;
-    hit-asked = h .agreed .hit-cost-asked;
-    asked-least = h .agreed .cost-least;
-    asked-most = h .agreed .cost-most;
-  }
+  numbers-spent h = let g = h .agreed in amount (g .hit-cost-least) (g .hit-cost-most) (g .hit-cost-asked) (g .cost-least) (g .cost-most)
 
-  pub numbers : Counts a → Asked → Spent → Numbers a
-  numbers h b c = record {
+  pub numbers : Counted a → a .evicted + a .«files_kept» ≡ a .admitted → Spent → Numbers a
+  numbers h e c = record {
     few = h .few;
     agreed = record {
       outcomes = h .outcomes;
-      evicted = h .evicted;
-      hit-bytes-least = b .hit-least;
-      hit-bytes-most = b .hit-most;
-      hit-bytes-asked = b .hit-asked;
-      bytes-least = b .asked-least;
-      bytes-most = b .asked-most;
-      hit-cost-least = c .hit-least;
-      hit-cost-most = c .hit-most;
-      hit-cost-asked = c .hit-asked;
-      cost-least = c .asked-least;
-      cost-most = c .asked-most;
+      evicted = e;
+      hit-bytes-least = total-least _ _ _ (h .bytes .hit);
+      hit-bytes-most = total-most _ _ _ (h .bytes .hit);
+      hit-bytes-asked = h .bytes .within;
+      bytes-least = total-least _ _ _ (h .bytes .asked);
+      bytes-most = total-most _ _ _ (h .bytes .asked);
+      hit-cost-least = total-least _ _ _ (c .hit);
+      hit-cost-most = total-most _ _ _ (c .hit);
+      hit-cost-asked = c .within;
+      cost-least = total-least _ _ _ (c .asked);
+      cost-most = total-most _ _ _ (c .asked);
     };
   }

@@ -1,11 +1,10 @@
 // The files: each has no place, or one that points back at it and holds a record in range.
+use crate::sums::kept_product;
 use amounts::Bytes;
-use amounts::Cost;
 use amounts::Key;
 use amounts::Places;
 use amounts::Policy;
 use amounts::Settings;
-use amounts::product;
 ghost use mathlib.Core.List.{[]};
 ghost use Prim.Native.Nat.{_≤_, _<_};
 ghost use Rattle.amounts.specs.Limits.{requestsMost};
@@ -14,29 +13,29 @@ ghost use Rattle.method.specs.Promise.{Once};
 ghost use Rattle.tables.specs.Tables.{tables};
 ghost use Rattle.weighing.specs.Weighing.{Exact, Covered, Right, Lawful, AllLawful};
 
-// Whether a frequency is exactly 1 where the policy is 1.
-fn is_once(policy: u64, freq: u32) -> bool
-    ensures { λ r. ⌜ Exact (Once (policyOf policy) freq) r ⌝ }
+// Whether a frequency is exactly 1 where the policy counts none.
+fn is_once(policy: Policy, freq: u32) -> bool
+    ensures { λ r. ⌜ Exact (Once (policyOf (policy .0)) freq) r ⌝ }
 {
-    if policy == Policy::SIZE {
+    if policy.without_frequency() {
         return freq == 1;
     }
     true
 }
 
-// Whether a record is in range at inflation l after so many requests.
+// Whether a record is in range at an inflation after so many requests.
 fn is_right(
-    policy: u64,
+    policy: Policy,
     inflation: Key,
     requests: u64,
     size: u32,
     cost: u16,
     freq: u32,
-    key: u64,
+    key: Key,
     stamp: u64,
 ) -> bool
     requires { ⌜ requests ≤ requestsMost ⌝ }
-    ensures { λ r. ⌜ Exact (Right policy (inflation .0) requests (record { size = size; cost = cost; freq = freq; key = key; stamp = stamp })) r ⌝ }
+    ensures { λ r. ⌜ Exact (Right (policyOf (policy .0)) (inflation .0) requests (record { size = size; cost = cost; freq = freq; key = key .0; stamp = stamp })) r ⌝ }
 {
     if !Bytes::is_size(size as u64) {
         return false;
@@ -56,11 +55,11 @@ fn is_right(
     if requests <= stamp {
         return false;
     }
-    if key < inflation.0 {
+    if !inflation.at_most(key) {
         return false;
     }
-    let most = product(freq as u64, Bytes(size as u64), Cost(cost as u64));
-    key - inflation.0 <= most.0
+    let most = kept_product(size, cost, freq as u64);
+    key.minus(inflation).at_most(most)
 }
 
 // Whether file f has no place, or one that points back at it and holds a record in range.
@@ -82,24 +81,24 @@ fn is_lawful(
     requires { ⌜ Covered (settings .places .0) (settings .catalogue .0) (tables (now place) (now file) (now size) (now cost) (now freq) (now key) (now stamp) []) ⌝ }
     ensures { λ r. ⌜ Exact (Lawful settings (inflation .0) requests (tables (now (place .entry)) (now (file .entry)) (now (size .entry)) (now (cost .entry)) (now (freq .entry)) (now (key .entry)) (now (stamp .entry)) []) f) r ⌝ }
 {
-    if place[f] == Places::NONE {
+    let p = place[f] as usize;
+    if p == Places::NONE as usize {
         return true;
     }
-    let p = place[f] as usize;
-    if settings.places.0 <= p as u64 {
+    if settings.places.count() <= p {
         return false;
     }
     if file[p] as usize != f {
         return false;
     }
     is_right(
-        settings.policy.0,
+        settings.policy,
         inflation,
         requests,
         size[p],
         cost[p],
         freq[p],
-        key[p],
+        Key(key[p]),
         stamp[p],
     )
 }
@@ -121,7 +120,7 @@ pub(crate) fn all_lawful(
     requires { ⌜ Covered (settings .places .0) (settings .catalogue .0) (tables (now place) (now file) (now size) (now cost) (now freq) (now key) (now stamp) []) ⌝ }
     ensures { λ r. ⌜ Exact (AllLawful settings (inflation .0) requests (tables (now (place .entry)) (now (file .entry)) (now (size .entry)) (now (cost .entry)) (now (freq .entry)) (now (key .entry)) (now (stamp .entry)) [])) r ⌝ }
 {
-    let catalogue = settings.catalogue.0 as usize;
+    let catalogue = settings.catalogue.count();
     let mut f = 0;
     while f < catalogue {
         if !is_lawful(

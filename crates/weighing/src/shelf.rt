@@ -3,39 +3,39 @@ use crate::files::all_lawful;
 use crate::sums::count_kept;
 use crate::sums::sum_kept;
 use crate::sums::sum_products;
+use amounts::Bytes;
 use amounts::Key;
 use tables::Tally;
 ghost use mathlib.Core.List.{[]};
 ghost use Prim.Native.Nat.{_≤_};
 ghost use Rattle.amounts.specs.Limits.{requestsMost};
-ghost use Rattle.tables.specs.Tables.{tables};
+ghost use Rattle.tables.specs.Tables.{tables, shelfOf};
 ghost use Rattle.weighing.specs.Weighing.{Exact, Weighable, Balanced, Shelvable, Filed};
 
 // Whether the sums over the files that have a place are those of the tally and within their bounds.
 fn sums_agree(a: Tally, place: &[u16], size: &[u32], cost: &[u16], freq: &[u32]) -> bool
     requires { ⌜ Weighable (a .settings .catalogue .0) (now place) (now size) (now cost) (now freq) ⌝ }
     requires { ⌜ a .requests ≤ requestsMost ⌝ }
-    ensures { λ r. ⌜ Exact (Balanced a (now (place .entry)) (now (size .entry)) (now (cost .entry)) (now (freq .entry))) r ⌝ }
+    ensures { λ r. ⌜ Exact (Balanced a (shelfOf (a .settings .catalogue .0) (tables (now (place .entry)) [] (now (size .entry)) (now (cost .entry)) (now (freq .entry)) [] [] []))) r ⌝ }
 {
-    let catalogue = a.settings.catalogue.0 as usize;
-    if count_kept(catalogue, place) != a.files_kept {
+    if count_kept(a.settings.catalogue, place) != a.files_kept {
         return false;
     }
-    let bytes = sum_kept(catalogue, place, size);
-    if bytes != a.bytes_kept.0 {
+    let bytes = Bytes(sum_kept(a.settings.catalogue, place, size));
+    if !bytes.same(a.bytes_kept) {
         return false;
     }
-    if a.settings.capacity.0 < bytes {
+    if !bytes.at_most(a.settings.capacity) {
         return false;
     }
-    if a.requests < sum_kept(catalogue, place, freq) {
+    if a.requests < sum_kept(a.settings.catalogue, place, freq) {
         return false;
     }
-    let most = a.requests * Key::WORTH_MOST;
-    if most < a.inflation.0 {
+    let most = Key::most(a.requests);
+    if !a.inflation.at_most(most) {
         return false;
     }
-    sum_products(catalogue, place, size, cost, freq) <= most - a.inflation.0
+    sum_products(a.settings.catalogue, place, size, cost, freq).at_most(most.minus(a.inflation))
 }
 
 // Whether every file is as it should be, and so are the sums over them.

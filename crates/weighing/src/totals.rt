@@ -1,37 +1,45 @@
 // The totals of a tally: numbers alone, bounded before they are added or multiplied.
-use amounts::Bytes;
-use amounts::Cost;
 use amounts::Requests;
 use tables::Tally;
 ghost use Prim.Native.Nat.{_≤_};
-ghost use Rattle.amounts.specs.Limits.{requestsMost, sizeMost};
-ghost use Rattle.weighing.specs.Weighing.{Exact, Within, Counts, Numbers};
+ghost use Rattle.amounts.specs.Limits.{requestsMost, sizeMost, costMost};
+ghost use Rattle.weighing.specs.Weighing.{Exact, Amount, Counted, Numbers};
 
-// Whether what was asked and what was hit lie within their bounds: for bytes, and likewise for cost.
-fn within(hits: u64, requests: u64, hit: u64, asked: u64, most: u64) -> bool
-    requires { ⌜ (hits ≤ requestsMost) × (requests ≤ requestsMost) × (most ≤ sizeMost) ⌝ }
-    ensures { λ r. ⌜ Exact (Within hits requests hit asked most) r ⌝ }
+// Whether bytes asked and hit bytes lie within their bounds.
+fn bytes_agree(a: Tally) -> bool
+    requires { ⌜ a .hits ≤ requestsMost ⌝ }
+    requires { ⌜ a .requests ≤ requestsMost ⌝ }
+    ensures { λ r. ⌜ Exact (Amount sizeMost (a .hits) (a .requests) (a .«hit_bytes» .0) (a .«bytes_asked» .0)) r ⌝ }
 {
-    if hit < hits {
+    if !a.hit_bytes.is_total_of(a.hits) {
         return false;
     }
-    if hits * most < hit {
+    if !a.hit_bytes.at_most(a.bytes_asked) {
         return false;
     }
-    if asked < hit {
-        return false;
-    }
-    if asked < requests {
-        return false;
-    }
-    asked <= requests * most
+    a.bytes_asked.is_total_of(a.requests)
 }
 
-// Whether the outcomes make up the requests, and the files kept what was admitted and not evicted.
-fn outcomes_agree(a: Tally) -> bool
-    ensures { λ r. ⌜ Exact (Counts a) r ⌝ }
+// Whether cost asked and hit cost lie within theirs.
+fn cost_agrees(a: Tally) -> bool
+    requires { ⌜ a .hits ≤ requestsMost ⌝ }
+    requires { ⌜ a .requests ≤ requestsMost ⌝ }
+    ensures { λ r. ⌜ Exact (Amount costMost (a .hits) (a .requests) (a .«hit_cost» .0) (a .«cost_asked» .0)) r ⌝ }
 {
-    if Requests::MOST < a.requests {
+    if !a.hit_cost.is_total_of(a.hits) {
+        return false;
+    }
+    if !a.hit_cost.at_most(a.cost_asked) {
+        return false;
+    }
+    a.cost_asked.is_total_of(a.requests)
+}
+
+// Whether the outcomes make up the requests, not too many for a run, and their bytes can be so many.
+fn counts_agree(a: Tally) -> bool
+    ensures { λ r. ⌜ Exact (Counted a) r ⌝ }
+{
+    if !Requests(a.requests).in_range() {
         return false;
     }
     if a.requests < a.hits {
@@ -46,27 +54,21 @@ fn outcomes_agree(a: Tally) -> bool
     if a.hits + a.admitted + a.passed != a.requests {
         return false;
     }
-    if a.admitted < a.evicted {
-        return false;
-    }
-    a.files_kept == a.admitted - a.evicted
+    bytes_agree(a)
 }
 
 // Whether the totals agree with each other.
 pub fn totals_agree(a: Tally) -> bool
     ensures { λ r. ⌜ Exact (Numbers a) r ⌝ }
 {
-    if !outcomes_agree(a) {
+    if !counts_agree(a) {
         return false;
     }
-    if !within(
-        a.hits,
-        a.requests,
-        a.hit_bytes.0,
-        a.bytes_asked.0,
-        Bytes::SIZE_MOST,
-    ) {
+    if a.admitted < a.evicted {
         return false;
     }
-    within(a.hits, a.requests, a.hit_cost.0, a.cost_asked.0, Cost::MOST)
+    if a.files_kept != a.admitted - a.evicted {
+        return false;
+    }
+    cost_agrees(a)
 }

@@ -10,16 +10,21 @@ use Rattle.judge.proofs.entries.rest_zero.Statement.{statement}
 use Rattle.judge.proofs.entries.rest_zero.Tie as tie
 
 abbrev Inv-loop : tie.InvT-loop
-Inv-loop n places queue i₀ i = (n ≤ i) × ((k : ℕ) → k < i → n ≤ k → getD queue k 0 ≡ 0)
+Inv-loop n queue places i₀ i = (n ≤ i) × ((k : ℕ) → k < i → n ≤ k → getD queue k 0 ≡ 0)
 
 abbrev μ-loop : tie.MeasureT-loop
-μ-loop n places queue i₀ i = places - i
+μ-loop n queue places i₀ i = places - i
+
+count-requires : tie.Need-count-requires Inv-loop μ-loop
+count-requires c κs = search needs
 
 loop-holds : tie.Need-loop-holds Inv-loop μ-loop
 loop-holds c = (omega arith, λ k l h. absurd (omega arith))
 
 mul-if1 : tie.Need-mul-if1 Inv-loop μ-loop
-mul-if1 c = scaled-fits _ (length (c .before .before .args .queue .now)) 2 (omega arith) (search needs)
+mul-if1 c =
+    let start : tie.Start Inv-loop μ-loop = search in
+    scaled-fits _ (length (start .args .queue .now)) 2 (omega arith) (search needs)
 
 shared-slice-read-if1 : tie.Need-shared-slice-read-if1 Inv-loop μ-loop
 shared-slice-read-if1 c = omega arith
@@ -40,16 +45,4 @@ returns-2 : tie.Need-returns-2 Inv-loop μ-loop
 returns-2 c = answer-yes (λ i a b. c .before .loop .inv .1 i (omega arith) a)
 
 pub rest-zero-spec : {M : Type 1} → statement M
-rest-zero-spec =
-    tie.close
-    (tie.spec
-    Inv-loop
-    μ-loop
-    loop-holds
-    mul-if1
-    shared-slice-read-if1
-    returns
-    add-i
-    loop-less
-    loop-again
-    returns-2)
+rest-zero-spec = tie.close (tie.spec Inv-loop μ-loop count-requires loop-holds mul-if1 shared-slice-read-if1 returns add-i loop-less loop-again returns-2)

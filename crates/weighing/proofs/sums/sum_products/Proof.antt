@@ -1,75 +1,111 @@
 -- `weighing::sums::sum_products` meets its contract. Assumes nothing.
 use mathlib.Core.Logic.{⊎-elim}
 use mathlib.Core.Path.{_≡_, sym, ap, _∙_}
-use Prim.Native.Nat.{_+_, _≤_, _-_}
+use Prim.Native.Nat.{ℕ, _+_, _≤_, _<_, _-_}
 use native.Mathlib.Omega.{arith}
 use lib.ListN.{length, getD}
 use borrow.Author.Needs.{needs, scaled-fits}
-use Rattle.weighing.specs.Weighing.{added, productAt}
-use Rattle.weighing.proofs.Adding.{sum-small, added-zero, sum-none, sum-some, inside-place, valued-place, freq-small}
+use Rattle.method.specs.Shelf.{sum, product}
+use Rattle.tables.specs.Tables.{shelfOf}
+use Rattle.weighing.specs.Weighing.{Weighed}
+use Rattle.weighing.proofs.Adding.{weighed, sum-nobody, sum-none, sum-some, at-file, freq-small, sum-small}
 use Rattle.weighing.proofs.sums.sum_products.Statement.{statement}
 use Rattle.weighing.proofs.sums.sum_products.Tie as tie
 
 abbrev Inv-loop : tie.InvT-loop
-Inv-loop n place size cost freq sum₀ f₀ sum f = (f ≤ n) × (sum ≡ added (productAt size cost freq) place f)
+Inv-loop place size cost freq n sum₀ f₀ r f = (f ≤ n) × (r .0 ≡ sum product (shelfOf f (weighed place size cost freq)))
 
 abbrev μ-loop : tie.MeasureT-loop
-μ-loop n place size cost freq sum₀ f₀ sum f = n - f
+μ-loop place size cost freq n sum₀ f₀ r f = n - f
 
--- what the function was given, from inside the loop
-abbrev start : tie.In-loop Inv-loop μ-loop → tie.Start Inv-loop μ-loop
-start w = w .before .before .before .before .before .before
+abbrev loop→start : tie.At-loop Inv-loop μ-loop → tie.Start Inv-loop μ-loop
+loop→start c = c .before .before .before .before .before .before
+
+abbrev turn→start : tie.In-loop Inv-loop μ-loop → tie.Start Inv-loop μ-loop
+turn→start c = loop→start (c .before)
+
+abbrev placed→turn : tie.Then1 Inv-loop μ-loop → tie.In-loop Inv-loop μ-loop
+placed→turn c = c .before .before
+
+abbrev product→placed : tie.After-kept-product Inv-loop μ-loop → tie.Then1 Inv-loop μ-loop
+product→placed c = c .before .before .before .before
+
+count-requires : tie.Need-count-requires Inv-loop μ-loop
+count-requires c κs = search needs
 
 loop-holds : tie.Need-loop-holds Inv-loop μ-loop
-loop-holds c = (omega arith, sym (added-zero _ _))
+loop-holds c = (omega arith, sym (sum-nobody _ _))
 
-mul-if1 : tie.Need-mul-if1 Inv-loop μ-loop
-mul-if1 c = scaled-fits _ (length (start c .args .place .now)) 2 (omega (arith, start c .pre .weighable .sizes .listed .long, c .loop-test .taken)) (search needs)
-
-shared-slice-read-if1 : tie.Need-shared-slice-read-if1 Inv-loop μ-loop
-shared-slice-read-if1 c = omega (arith, start (c .before) .pre .weighable .sizes .listed .long, c .before .loop-test .taken)
+-- the file is one of the catalogue
+inside : (c : tie.In-loop Inv-loop μ-loop) → c .before .loop .f < turn→start c .args .catalogue .0
+inside c = omega (arith, c .before .before .count .ensures, c .loop-test .taken)
 
 mul-p : tie.Need-mul-p Inv-loop μ-loop
-mul-p c = scaled-fits _ (length (start (c .before .before) .args .place .now)) 2 (omega (arith, start (c .before .before) .pre .weighable .sizes .listed .long, c .before .before .loop-test .taken)) (search needs)
+mul-p c =
+    let start = turn→start c in
+    scaled-fits _ (length (start .args .place .now)) 2 (omega (arith, start .pre .0 .catalogued .long, inside c)) (search needs)
 
 shared-slice-read-p : tie.Need-shared-slice-read-p Inv-loop μ-loop
-shared-slice-read-p c = omega (arith, start (c .before .before .before) .pre .weighable .sizes .listed .long, c .before .before .before .loop-test .taken)
+shared-slice-read-p c =
+    let turn = c .before in
+    omega (arith, turn→start turn .pre .0 .catalogued .long, inside turn)
 
 cast-p : tie.Need-cast-p Inv-loop μ-loop
-cast-p c = omega (arith, c .shared-slice-known6 .given (c .before .before .before .before .loop .f))
+cast-p c = omega (arith, c .shared-slice-known5 .given (c .before .before .loop .f))
 
-mul-product : tie.Need-mul-product Inv-loop μ-loop
-mul-product c = omega (arith, c .shared-slice-known6 .given (c .before .before .before .before .loop .f))
+cast-if1 : tie.Need-cast-if1 Inv-loop μ-loop
+cast-if1 c = search needs
 
-shared-slice-read-product : tie.Need-shared-slice-read-product Inv-loop μ-loop
-shared-slice-read-product c = inside-place (start (c .before .before .before .before) .pre .weighable .freqs) _ (c .before .before .before .before .loop-test .taken) (c .before .before .if1 .taken)
+-- its place has a record that can be weighed
+file : (c : tie.Then1 Inv-loop μ-loop)
+    → let x = turn→start (placed→turn c) .args in
+    Weighed (x .size .now) (x .cost .now) (x .freq .now) (getD (x .place .now) (placed→turn c .before .loop .f) 0)
+file c =
+    let turn = placed→turn c in
+    let start = turn→start turn in
+    at-file _ _ _ _ _ (start .pre .0) (start .pre .1) _ (inside turn) (c .if1 .taken)
 
-cast-product : tie.Need-cast-product Inv-loop μ-loop
-cast-product c = omega (arith, c .shared-slice-known7 .given (getD (start (c .before .before .before .before) .args .place .now) (c .before .before .before .before .before .loop .f) 0))
+mul-kept-product : tie.Need-mul-kept-product Inv-loop μ-loop
+mul-kept-product c = omega (arith, c .before .shared-slice-known5 .given (placed→turn c .before .loop .f))
 
-mul-t20 : tie.Need-mul-t20 Inv-loop μ-loop
-mul-t20 c = omega (arith, c .before .shared-slice-known6 .given (c .before .before .before .before .before .loop .f))
+shared-slice-read-kept-product : tie.Need-shared-slice-read-kept-product Inv-loop μ-loop
+shared-slice-read-kept-product c = file (c .before) .sized
 
-shared-slice-read-t22 : tie.Need-shared-slice-read-t22 Inv-loop μ-loop
-shared-slice-read-t22 c = inside-place (start (c .before .before .before .before .before) .pre .weighable .sizes) _ (c .before .before .before .before .before .loop-test .taken) (c .before .before .before .if1 .taken)
+mul-kept-product-2 : tie.Need-mul-kept-product-2 Inv-loop μ-loop
+mul-kept-product-2 c =
+    let placed = c .before in
+    omega (arith, placed .before .shared-slice-known5 .given (placed→turn placed .before .loop .f))
 
-cast-t23 : tie.Need-cast-t23 Inv-loop μ-loop
-cast-t23 c = omega (arith, c .shared-slice-known8 .given (getD (start (c .before .before .before .before .before) .args .place .now) (c .before .before .before .before .before .before .loop .f) 0))
+shared-slice-read-kept-product-2 : tie.Need-shared-slice-read-kept-product-2 Inv-loop μ-loop
+shared-slice-read-kept-product-2 c = file (c .before .before) .priced
 
-mul-t25 : tie.Need-mul-t25 Inv-loop μ-loop
-mul-t25 c = omega (arith, c .before .before .shared-slice-known6 .given (c .before .before .before .before .before .before .loop .f))
+mul-kept-product-3 : tie.Need-mul-kept-product-3 Inv-loop μ-loop
+mul-kept-product-3 c =
+    let placed = c .before .before in
+    omega (arith, placed .before .shared-slice-known5 .given (placed→turn placed .before .loop .f))
 
-shared-slice-read-t16 : tie.Need-shared-slice-read-t16 Inv-loop μ-loop
-shared-slice-read-t16 c = inside-place (start (c .before .before .before .before .before .before) .pre .weighable .costs) _ (c .before .before .before .before .before .before .loop-test .taken) (c .before .before .before .before .if1 .taken)
+shared-slice-read-kept-product-3 : tie.Need-shared-slice-read-kept-product-3 Inv-loop μ-loop
+shared-slice-read-kept-product-3 c = file (c .before .before .before) .counted
 
-cast-t27 : tie.Need-cast-t27 Inv-loop μ-loop
-cast-t27 c = omega (arith, c .shared-slice-known9 .given (getD (start (c .before .before .before .before .before .before) .args .place .now) (c .before .before .before .before .before .before .before .loop .f) 0))
+cast-kept-product : tie.Need-cast-kept-product Inv-loop μ-loop
+cast-kept-product c =
+    let turn = placed→turn (c .before .before .before) in
+    omega (arith, c .shared-slice-known8 .given (getD (turn→start turn .args .place .now) (turn .before .loop .f) 0))
 
-product-requires : tie.Need-product-requires Inv-loop μ-loop
-product-requires c κs = (valued-place (start (c .before .before .before .before .before .before) .pre) _ (c .before .before .before .before .before .before .loop-test .taken) (c .before .before .before .before .if1 .taken), freq-small (start (c .before .before .before .before .before .before) .pre) _ (c .before .before .before .before .before .before .loop-test .taken) (c .before .before .before .before .if1 .taken))
+kept-product-requires : tie.Need-kept-product-requires Inv-loop μ-loop
+kept-product-requires c κs =
+    let placed = c .before .before .before in
+    let turn = placed→turn placed in
+    let start = turn→start turn in
+    (file placed .valued, freq-small _ _ _ _ _ (start .pre .0) (start .pre .1) _ (inside turn) (placed .if1 .taken))
 
-add-sum : tie.Need-add-sum Inv-loop μ-loop
-add-sum c = omega (arith, sum-small (start (c .before .before .before .before .before .before .before .before) .pre) (c .before .before .before .before .before .before .before .before .before .loop .f) (c .before .before .before .before .before .before .before .before .loop-test .taken) (c .before .before .before .before .before .before .if1 .taken) (c .before .before .before .before .before .before .before .before .before .loop .inv .1) (c .before .product .ensures))
+plus-requires : tie.Need-plus-requires Inv-loop μ-loop
+plus-requires c κs =
+    let placed = product→placed c in
+    let turn = placed→turn placed in
+    let start = turn→start turn in
+    let loop = turn .before .loop in
+    omega (arith, sum-small _ _ _ _ _ (start .pre .0) (start .pre .1) (loop .f) (inside turn) (placed .if1 .taken) (loop .inv .1) (c .kept-product .ensures))
 
 add-f : tie.Need-add-f Inv-loop μ-loop
 add-f c = omega (arith, c .before .before .loop-test .taken)
@@ -79,39 +115,29 @@ loop-less c = omega (arith, c .before .before .loop-test .taken)
 
 loop-again : tie.Need-loop-again Inv-loop μ-loop
 loop-again c =
-    let f = c .before .before .before .loop .f in
-    let inv = c .before .before .before .loop .inv in
-    (omega (arith, c .before .before .loop-test .taken), ⊎-elim (λ x. sum-some _ _ f (inv .1) (x .0 .taken) (x .7 ∙ ap (λ w. c .before .before .before .loop .sum + w) (x .5 .ensures))) (λ x. sum-none _ _ f (inv .1) (x .0 .left) (x .1)) (c .if1 .came))
+    let turn = c .before .before in
+    let loop = turn .before .loop in
+    let start = turn→start turn in
+    let x = start .args in
+    let t = weighed (x .place .now) (x .size .now) (x .cost .now) (x .freq .now) in
+    let l : loop .f < length (x .place .now) = omega (arith, start .pre .0 .catalogued .long, inside turn) in (
+      omega (arith, turn .loop-test .taken),
+      ⊎-elim
+          (λ x. sum-some _ t (loop .f) l (loop .inv .1) (x .0 .taken) (ap (λ k. k .0) (x .6) ∙ x .5 .ensures ∙ ap (λ (w : ℕ). loop .sum .0 + w) (x .4 .ensures)))
+          (λ x. sum-none _ t (loop .f) l (loop .inv .1) (x .0 .left) (ap (λ k. k .0) (x .1)))
+          (c .if1 .came),
+    )
 
 returns : tie.Need-returns Inv-loop μ-loop
 returns c =
-    let e : c .before .loop .f ≡ c .before .before .before .before .before .before .args .n = omega (arith, c .loop-test .left, c .before .loop .inv .0) in
-    c .before .loop .inv .1 ∙ ap (added _ _) e
+    let loop = c .before .loop in
+    let x = loop→start (c .before) .args in
+    let e : loop .f ≡ x .catalogue .0 = omega (arith, c .before .before .count .ensures, c .loop-test .left, loop .inv .0) in
+    loop .inv .1 ∙ ap (λ (k : ℕ). sum product (shelfOf k (weighed (x .place .now) (x .size .now) (x .cost .now) (x .freq .now)))) e
 
 pub sum-products-spec : {M : Type 1} → statement M
 sum-products-spec =
     tie.close
-    (tie.spec
-    Inv-loop
-    μ-loop
-    loop-holds
-    mul-if1
-    shared-slice-read-if1
-    mul-p
-    shared-slice-read-p
-    cast-p
-    mul-product
-    shared-slice-read-product
-    cast-product
-    mul-t20
-    shared-slice-read-t22
-    cast-t23
-    mul-t25
-    shared-slice-read-t16
-    cast-t27
-    product-requires
-    add-sum
-    add-f
-    loop-less
-    loop-again
-    returns)
+    (tie.spec Inv-loop μ-loop count-requires loop-holds mul-p shared-slice-read-p cast-p cast-if1 mul-kept-product shared-slice-read-kept-product
+    mul-kept-product-2 shared-slice-read-kept-product-2 mul-kept-product-3 shared-slice-read-kept-product-3 cast-kept-product kept-product-requires
+    plus-requires add-f loop-less loop-again returns)

@@ -1,10 +1,10 @@
--- `judge::places::is_blank` meets its contract. Assumes nothing.
+-- `judge::places::is_zero` meets its contract. Assumes nothing.
 use native.Mathlib.Omega.{arith}
 use borrow.Author.Tests.{eqb-true, eq-eqb}
 use borrow.Author.Needs.{needs}
 use Rattle.weighing.proofs.Answers.{answer-no, answer-test}
-use Rattle.judge.proofs.places.is_blank.Statement.{statement}
-use Rattle.judge.proofs.places.is_blank.Tie as tie
+use Rattle.judge.proofs.places.is_zero.Statement.{statement}
+use Rattle.judge.proofs.places.is_zero.Tie as tie
 
 mul-if1 : tie.Need-mul-if1
 mul-if1 c = search needs
@@ -58,27 +58,12 @@ shared-slice-read-result : tie.Need-shared-slice-read-result
 shared-slice-read-result c = search needs
 
 returns-6 : tie.Need-returns-6
-returns-6 c = answer-test _ (λ e. record { file = omega arith; size = omega arith; cost = omega arith; freq = omega arith; key = omega arith; stamp = eqb-true _ _ e }) (λ z. eq-eqb _ _ (z .stamp))
+returns-6 c =
+    answer-test _ (λ e. record { file = omega arith; size = omega arith; cost = omega arith; freq = omega arith; key = omega arith; stamp = eqb-true _ _ e })
+    (λ z. eq-eqb _ _ (z .stamp))
 
-pub is-blank-spec : {M : Type 1} → statement M
-is-blank-spec =
+pub is-zero-spec : {M : Type 1} → statement M
+is-zero-spec =
     tie.close
-    (tie.spec
-    mul-if1
-    shared-slice-read-if1
-    returns
-    mul-if2
-    shared-slice-read-if2
-    returns-2
-    mul-if3
-    shared-slice-read-if3
-    returns-3
-    mul-if4
-    shared-slice-read-if4
-    returns-4
-    mul-if5
-    shared-slice-read-if5
-    returns-5
-    mul-result
-    shared-slice-read-result
-    returns-6)
+    (tie.spec mul-if1 shared-slice-read-if1 returns mul-if2 shared-slice-read-if2 returns-2 mul-if3 shared-slice-read-if3 returns-3 mul-if4
+    shared-slice-read-if4 returns-4 mul-if5 shared-slice-read-if5 returns-5 mul-result shared-slice-read-result returns-6)
