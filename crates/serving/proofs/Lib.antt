@@ -1,6 +1,9 @@
 -- The laws of this room.
 pub mod Beyond
 pub mod Runnings
+pub mod Tallies
+pub mod Meetings
 pub mod Entering
 pub mod Admitting
+pub mod Hits
 pub mod Servings

@@ -1,0 +1,133 @@
+-- A request with its cost in force, at sound tables: what is known of it before it is decided, and a pass, which changes nothing but the tally. Assumes nothing.
+use mathlib.Core.Path.{_≡_, refl, sym, ap, _∙_, subst}
+use mathlib.Core.List.{List, []}
+use Prim.Native.Nat.{ℕ, suc, _+_, _≤_, _<_}
+use native.Mathlib.Omega.{arith}
+use lib.ListN.{length, getD, drop}
+use borrow.Author.Tests.{le-leb, lt-ltb, le-ltb}
+use Rattle.amounts.specs.Limits.{noPlace, requestsMost, sizeMost, costMost}
+use Rattle.amounts.specs.Worth.{inForce}
+use Rattle.amounts.specs.Requests.{Request, resolved, Ranged}
+use Rattle.amounts.specs.declared.settings.Settings.{Settings}
+use Rattle.amounts.proofs.Tests.{in-one-to, pick-true, pick-false}
+use Rattle.amounts.proofs.Values.{in-force-some}
+use Rattle.method.specs.Shelf.{none, Shelf}
+use Rattle.method.specs.Method.{Policy, State, Served, served, missed, meet, step}
+use Rattle.method.specs.Method as method
+use Rattle.method.specs.Promise.{SoundAt, Small}
+use Rattle.method.specs.declared.outcome.Pass.{Pass}
+use Rattle.method.specs.declared.outcome.Pass.the-variants.{TooBig}
+use Rattle.method.specs.declared.outcome.Outcome.the-variants.{Passed}
+use Rattle.method.proofs.Sound.{step-sound}
+use Rattle.method.proofs.Demand.{sound-small}
+use Rattle.tables.specs.Tables.{Tables, slotOf, shelfOf}
+use Rattle.tables.specs.Tally.{storeOf, policyIn, stampOf, stateOf, totalsOf}
+use Rattle.tables.specs.declared.tally.Tally.{Tally}
+use Rattle.tables.proofs.Ranges.{bounded}
+use Rattle.tables.proofs.Shelves.{shelf-at, shelf-length, shelf-queue, slot-none}
+use Rattle.shelving.specs.Live.{Live, Stack}
+use Rattle.shelving.specs.Evicting.{withQueue}
+use Rattle.shelving.proofs.Lives.{stack-same}
+use Rattle.counting.specs.Counting.{passTally, Countable}
+use Rattle.serving.specs.Serving.{Met, Meetable, meets, admits}
+use Rattle.serving.proofs.Beyond.{beyond-queue}
+use Rattle.serving.proofs.Runnings.{running-live, running-stack}
+use Rattle.serving.proofs.Tallies.{plus-zero, pass-totals, tallied-after}
+
+module _ {a : Tally} {q : Request} {t : Tables} {entry free events : List ℕ} {at : ℕ} (h : Meetable a q t entry free events at) where
+  abbrev s : Settings
+  s = a .settings
+
+  abbrev cat : ℕ
+  cat = a .settings .catalogue .0
+
+  abbrev shelf : Shelf
+  shelf = shelfOf (a .settings .catalogue .0) t
+
+  abbrev policy : Policy
+  policy = policyIn (a .settings)
+
+  abbrev store : method.Settings
+  store = storeOf (a .settings)
+
+  pub live : Live s (a .«files_kept») (a .«files_kept») t entry
+  live = running-live a t entry free (h .running)
+
+  pub stack : Stack s (a .«files_kept») t free
+  stack = running-stack a t entry free (h .running)
+
+  pub sound : SoundAt policy store (stateOf a t) (a .requests)
+  sound = h .running .sound .shelf
+
+  pub one-place : 1 ≤ store .places
+  one-place = bounded s (h .running .ranged) .places .0
+
+  pub slot : getD shelf (q .file) none ≡ slotOf t (getD (t .place) (q .file) 0)
+  slot = shelf-at cat t (q .file) (h .known) (h .running .long .place)
+
+  pub slot-in : q .file < length shelf
+  slot-in = omega (arith, shelf-length cat t (h .running .long .place), h .known)
+
+  pub countable : Countable a (q .size) (q .cost)
+  countable = record { few = h .few; agreed = h .running .sound .agreed; valued = h .valued }
+
+  -- the request as the trace might hold it
+  ranged : Ranged cat q
+  ranged =
+      record {
+        file = h .known;
+        size = in-one-to sizeMost (q .size) (h .valued .size-least) (h .valued .size-most);
+        cost = le-leb (q .cost) costMost (h .valued .cost-most);
+      }
+
+  in-force : resolved q ≡ q
+  in-force =
+      let e : inForce (q .size) (q .cost) ≡ q .cost = in-force-some (q .size) (q .cost) (λ z. omega (arith, h .valued .cost-least)) in
+      λ i. record { file = q .file; size = q .size; cost = e i }
+
+  step-meets : step policy store (stateOf a t) q ≡ meets a q t
+  unfolding step
+  step-meets = ap (λ (r : Request). meet policy store (a .inflation .0) shelf (stampOf a) r (getD shelf (q .file) none)) in-force
+
+  -- no key overflows, before the request and after it
+  pub small-before : Small (stateOf a t)
+  small-before = sound-small policy store (stateOf a t) (a .requests) sound (omega (arith, h .few))
+
+  pub small-after : Small (meets a q t .state)
+  small-after =
+      subst (λ (x : Served State). Small (x .state)) step-meets
+      (sound-small policy store _ (suc (a .requests)) (step-sound policy store one-place (stateOf a t) (a .requests) sound q ranged) (omega (arith, h .few)))
+
+  -- a file that is not kept: a pass where it is too big, else an admission
+  module _ (out : getD (t .place) (q .file) 0 ≡ noPlace) where
+    pub slot-free : getD shelf (q .file) none ≡ none
+    slot-free = slot ∙ slot-none t (getD (t .place) (q .file) 0) out
+
+    pub big-as : s .capacity .0 < q .size → meets a q t ≡ served (a .inflation .0) shelf (stampOf a) (missed q [] (Passed TooBig))
+    big-as b = rw slot-free (pick-true _ _ (lt-ltb (s .capacity .0) (q .size) b))
+
+    pub small-as : q .size ≤ s .capacity .0 → meets a q t ≡ admits a q t
+    small-as b = rw slot-free (pick-false _ _ (le-ltb (s .capacity .0) (q .size) b))
+
+  -- a pass, for whatever reason: the queue may stand in another order
+  abbrev passed : Pass → Served State
+  passed w = served (a .inflation .0) shelf (stampOf a) (missed q [] (Passed w))
+
+  pub passes : (w : Pass) (queue′ entry′ : List ℕ) → Live s (a .«files_kept») (a .«files_kept») (withQueue queue′ t) entry′
+      → drop (s .places .0) queue′ ≡ drop (s .places .0) (t .queue) → (b : Tally) → b ≡ passTally a (q .size) (q .cost)
+      → Met a t events at (passed w) (record { outcome = Passed w; tally = b; events = at }) (withQueue queue′ t) entry′ free events
+  passes w queue′ entry′ l past b e =
+      subst (λ (c : Tally). Met a t events at (passed w) (record { outcome = Passed w; tally = c; events = at }) (withQueue queue′ t) entry′ free events) (sym e)
+      (record {
+        outcome = refl;
+        tally = tallied-after a (passed w) (h .running .sound .bytes) (h .running .sound .files) (pass-totals (totalsOf a) (q .size) (q .cost) w);
+        shelf = shelf-queue cat (withQueue queue′ t) t refl refl refl refl refl refl;
+        few = omega arith;
+        written = refl;
+        count = plus-zero at;
+        live = l;
+        stack =
+            stack-same s (a .«files_kept») (a .«files_kept») t (withQueue queue′ t) entry entry live refl refl
+            (λ p _. record { file = refl; size = refl; cost = refl; freq = refl; key = refl; stamp = refl }) free stack;
+        past = beyond-queue s t queue′ past;
+      })
