@@ -72,7 +72,7 @@ module _ {a : Tally} {q : Request} {t : Tables} {entry free events : List ℕ} {
   held = held-entry (t .queue) entry n (h .running .desk .indexed) p (omega (arith, h .running .sound .queued .once p occupied))
 
   -- the state after the hit is sound, so its key fits
-  pub hittable : Hittable a p (t .size) (t .cost) (t .freq) (t .key) (t .stamp) (t .queue) entry
+  hittable : Hittable a p (t .size) (t .cost) (t .freq) (t .key) (t .stamp) (t .queue) entry
   hittable =
       let l = h .running .long in
       let z : Small (struck .state) = subst (λ (x : Served State). Small (x .state)) hits-as (meetings.small-after h) in
@@ -87,6 +87,9 @@ module _ {a : Tally} {q : Request} {t : Tables} {entry free events : List ℕ} {
         holding = record { whole = meetings.live h .whole; inside = held .0 };
         countable = record { few = h .few; agreed = h .running .sound .agreed; valued = fine .valued };
       }
+
+  pub hittable-at : {k : ℕ} → k ≡ p → Hittable a k (t .size) (t .cost) (t .freq) (t .key) (t .stamp) (t .queue) entry
+  hittable-at e = rw e hittable
 
   module _ {freq′ key′ stamp′ queue′ entry′ : List ℕ} {b : Tally}
       (d : HitDone a p (t .size) (t .cost) (t .freq) (t .key) (t .stamp) (t .queue) entry freq′ key′ stamp′ queue′ entry′ b) where
@@ -165,7 +168,7 @@ module _ {a : Tally} {q : Request} {t : Tables} {entry free events : List ℕ} {
           queue = z i;
         }
 
-    pub strikes : Met a t events at (meets a q t) (record { outcome = Hit; tally = b; events = at }) u entry′ free events
+    strikes : Met a t events at (meets a q t) (record { outcome = Hit; tally = b; events = at }) u entry′ free events
     strikes =
         let sums = hit-kept shelf (q .file) old new slot-old refl (meetings.slot-in h) in
         subst (λ (x : Served State). Met a t events at x (record { outcome = Hit; tally = b; events = at }) u entry′ free events) (sym hits-as)
@@ -182,3 +185,7 @@ module _ {a : Tally} {q : Request} {t : Tables} {entry free events : List ℕ} {
           stack = stack-same s n n t u entry entry′ (meetings.live h) refl refl free-other free (meetings.stack h);
           past = hit-past;
         }))
+
+  pub strikes-at : {k : ℕ} → k ≡ p → {freq′ key′ stamp′ queue′ entry′ : List ℕ} {b : Tally} → HitDone a k (t .size) (t .cost) (t .freq) (t .key) (t .stamp) (t .queue) entry freq′ key′ stamp′ queue′ entry′ b
+      → Met a t events at (meets a q t) (record { outcome = Hit; tally = b; events = at }) (tables (t .place) (t .file) (t .size) (t .cost) freq′ key′ stamp′ queue′) entry′ free events
+  strikes-at e d = strikes (rw e at d)

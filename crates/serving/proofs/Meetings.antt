@@ -1,10 +1,12 @@
 -- A request with its cost in force, at sound tables: what is known of it before it is decided, and a pass, which changes nothing but the tally. Assumes nothing.
 use mathlib.Core.Path.{_≡_, refl, sym, ap, _∙_, subst}
+use mathlib.Core.Bool.{Bool, true, false, not}
 use mathlib.Core.List.{List, []}
 use Prim.Native.Nat.{ℕ, suc, _+_, _≤_, _<_}
 use native.Mathlib.Omega.{arith}
 use lib.ListN.{length, getD, drop}
-use borrow.Author.Tests.{le-leb, lt-ltb, le-ltb}
+use lib.Dec.{leb}
+use borrow.Author.Tests.{leb-true, leb-false, not-true, not-false, le-leb, lt-ltb, le-ltb}
 use Rattle.amounts.specs.Limits.{noPlace, requestsMost, sizeMost, costMost}
 use Rattle.amounts.specs.Worth.{inForce}
 use Rattle.amounts.specs.Requests.{Request, resolved, Ranged}
@@ -29,7 +31,8 @@ use Rattle.shelving.specs.Live.{Live, Stack}
 use Rattle.shelving.specs.Evicting.{withQueue}
 use Rattle.shelving.proofs.Lives.{stack-same}
 use Rattle.counting.specs.Counting.{passTally, Countable}
-use Rattle.serving.specs.Serving.{Met, Meetable, meets, admits}
+use Rattle.serving.specs.Serving.{Met, Meetable, meets, Admissible, admits}
+use Rattle.serving.specs.declared.step.Step.{Step}
 use Rattle.serving.proofs.Beyond.{beyond-queue}
 use Rattle.serving.proofs.Runnings.{running-live, running-stack}
 use Rattle.serving.proofs.Tallies.{plus-zero, pass-totals, tallied-after}
@@ -98,17 +101,6 @@ module _ {a : Tally} {q : Request} {t : Tables} {entry free events : List ℕ} {
       subst (λ (x : Served State). Small (x .state)) step-meets
       (sound-small policy store _ (suc (a .requests)) (step-sound policy store one-place (stateOf a t) (a .requests) sound q ranged) (omega (arith, h .few)))
 
-  -- a file that is not kept: a pass where it is too big, else an admission
-  module _ (out : getD (t .place) (q .file) 0 ≡ noPlace) where
-    pub slot-free : getD shelf (q .file) none ≡ none
-    slot-free = slot ∙ slot-none t (getD (t .place) (q .file) 0) out
-
-    pub big-as : s .capacity .0 < q .size → meets a q t ≡ served (a .inflation .0) shelf (stampOf a) (missed q [] (Passed TooBig))
-    big-as b = rw slot-free (pick-true _ _ (lt-ltb (s .capacity .0) (q .size) b))
-
-    pub small-as : q .size ≤ s .capacity .0 → meets a q t ≡ admits a q t
-    small-as b = rw slot-free (pick-false _ _ (le-ltb (s .capacity .0) (q .size) b))
-
   -- a pass, for whatever reason: the queue may stand in another order
   abbrev passed : Pass → Served State
   passed w = served (a .inflation .0) shelf (stampOf a) (missed q [] (Passed w))
@@ -131,3 +123,30 @@ module _ {a : Tally} {q : Request} {t : Tables} {entry free events : List ℕ} {
             (λ p _. record { file = refl; size = refl; cost = refl; freq = refl; key = refl; stamp = refl }) free stack;
         past = beyond-queue s t queue′ past;
       })
+
+  -- ---- a file that is not kept: too big for the store, or to be admitted
+
+  module _ (out : getD (t .place) (q .file) 0 ≡ noPlace) where
+    pub slot-free : getD shelf (q .file) none ≡ none
+    slot-free = slot ∙ slot-none t (getD (t .place) (q .file) 0) out
+
+    pub small-as : q .size ≤ s .capacity .0 → meets a q t ≡ admits a q t
+    small-as b = rw slot-free (pick-false _ _ (le-ltb (s .capacity .0) (q .size) b))
+
+    -- by the test of its size
+    module _ {fits : Bool} (e : fits ≡ leb (q .size) (s .capacity .0)) where
+      pub bigs : not fits ≡ true → {b : Tally} → b ≡ passTally a (q .size) (q .cost)
+          → Met a t events at (meets a q t) (record { outcome = Passed TooBig; tally = b; events = at }) t entry free events
+      bigs above {b} tl =
+          let x : meets a q t ≡ passed TooBig = rw slot-free (pick-true _ _ (lt-ltb (s .capacity .0) (q .size) (leb-false _ _ (sym e ∙ not-true fits above)))) in
+          subst (λ (y : Served State). Met a t events at y (record { outcome = Passed TooBig; tally = b; events = at }) t entry free events) (sym x)
+          (passes TooBig (t .queue) entry live refl b tl)
+
+      module _ (below : not fits ≡ false) where
+        pub admissible : Admissible a q t entry free events at
+        admissible = record { meetable = h; out = out; small = leb-true _ _ (sym e ∙ not-false fits below) }
+
+        pub admitted : {r : Step} {u : Tables} {entry′ free′ events′ : List ℕ} → Met a t events at (admits a q t) r u entry′ free′ events′
+            → Met a t events at (meets a q t) r u entry′ free′ events′
+        admitted {r} {u} {entry′} {free′} {events′} m =
+            subst (λ (y : Served State). Met a t events at y r u entry′ free′ events′) (sym (small-as (admissible .small))) m
