@@ -24,10 +24,10 @@ use Rattle.shelving.specs.Live.{Live}
 use Rattle.shelving.specs.Hitting.{freqAfter, Hittable, HitDone}
 use Rattle.shelving.proofs.Links.{SameAt, at-file, at-occupied}
 use Rattle.shelving.proofs.Lives.{live-same, stack-same}
-use Rattle.serving.specs.Serving.{Met, Meetable, meets, beyondOf}
-use Rattle.serving.proofs.Beyond.{drop-same}
-use Rattle.serving.proofs.Tallies.{plus-zero, hit-totals, hit-kept, tallied-after}
-use Rattle.serving.proofs.Meetings as meetings
+use Rattle.admitting.specs.Deciding.{Met, Meetable, meets, beyondOf}
+use Rattle.admitting.proofs.Beyond.{drop-same}
+use Rattle.admitting.proofs.Tallies.{plus-zero, hit-totals, hit-kept, tallied-after}
+use Rattle.admitting.proofs.Meetings as meetings
 
 module _ {a : Tally} {q : Request} {t : Tables} {entry free events : List ℕ} {at : ℕ} (h : Meetable a q t entry free events at) (in-store : getD (t .place) (q .file) 0 ≡ noPlace → ⊥) where
   abbrev s : Settings
@@ -168,11 +168,11 @@ module _ {a : Tally} {q : Request} {t : Tables} {entry free events : List ℕ} {
           queue = z i;
         }
 
-    strikes : Met a t events at (meets a q t) (record { outcome = Hit; tally = b; events = at }) u entry′ free events
+    strikes : Met a t events at (meets a q t) (record { outcome = Hit; tally = b; due = at }) u entry′ free events
     strikes =
         let sums = hit-kept shelf (q .file) old new slot-old refl (meetings.slot-in h) in
-        subst (λ (x : Served State). Met a t events at x (record { outcome = Hit; tally = b; events = at }) u entry′ free events) (sym hits-as)
-        (subst (λ (c : Tally). Met a t events at struck (record { outcome = Hit; tally = c; events = at }) u entry′ free events) (sym (d .tally))
+        subst (λ (x : Served State). Met a t events at x (record { outcome = Hit; tally = b; due = at }) u entry′ free events) (sym hits-as)
+        (subst (λ (c : Tally). Met a t events at struck (record { outcome = Hit; tally = c; due = at }) u entry′ free events) (sym (d .tally))
         (record {
           outcome = refl;
           tally =
@@ -187,5 +187,5 @@ module _ {a : Tally} {q : Request} {t : Tables} {entry free events : List ℕ} {
         }))
 
   pub strikes-at : {k : ℕ} → k ≡ p → {freq′ key′ stamp′ queue′ entry′ : List ℕ} {b : Tally} → HitDone a k (t .size) (t .cost) (t .freq) (t .key) (t .stamp) (t .queue) entry freq′ key′ stamp′ queue′ entry′ b
-      → Met a t events at (meets a q t) (record { outcome = Hit; tally = b; events = at }) (tables (t .place) (t .file) (t .size) (t .cost) freq′ key′ stamp′ queue′) entry′ free events
+      → Met a t events at (meets a q t) (record { outcome = Hit; tally = b; due = at }) (tables (t .place) (t .file) (t .size) (t .cost) freq′ key′ stamp′ queue′) entry′ free events
   strikes-at e d = strikes (rw e at d)

@@ -1,9 +1,5 @@
 -- The laws of this room.
-pub mod Beyond
 pub mod Runnings
-pub mod Tallies
-pub mod Meetings
-pub mod Entering
-pub mod Admitting
 pub mod Hits
+pub mod Misses
 pub mod Servings

@@ -16,7 +16,9 @@ use Rattle.method.proofs.Sound.{resolved-valued}
 use Rattle.tables.specs.Tables.{Tables}
 use Rattle.tables.specs.Tally.{storeOf, policyIn, stateOf}
 use Rattle.tables.specs.declared.tally.Tally.{Tally}
-use Rattle.serving.specs.Serving.{Met, Serves, Stepped, Servable, Meetable, meets, asked}
+use Rattle.admitting.specs.Deciding.{Met, Meetable, meets, asked}
+use Rattle.admitting.specs.declared.untold.Untold.{Untold}
+use Rattle.serving.specs.Serving.{Serves, Stepped, Servable}
 use Rattle.serving.specs.declared.step.Step.{Step}
 use Rattle.serving.proofs.Runnings.{running-next}
 
@@ -32,12 +34,12 @@ sets-snoc l i [] v = ap (λ (k : ℕ). set l k v) (omega arith)
 sets-snoc l i (w ∷ vs) v = sets-snoc (set l i w) (suc i) vs v ∙ ap (λ (k : ℕ). set (sets (set l i w) (suc i) vs) k v) (omega arith)
 
 -- the step with its own entry
-abbrev pub told : Step → Step
-told r = record { outcome = r .outcome; tally = r .tally; events = r .events + 1 }
+abbrev told : Untold → Step
+told r = record { outcome = r .outcome; tally = r .tally; events = r .due + 1 }
 
 -- document 01, "Event list": a request's own entry comes behind its evictions
-own-entry : {a : Tally} {t : Tables} {events : List ℕ} {at : ℕ} {x : Served State} {r : Step} {u : Tables} {entry′ free′ events′ : List ℕ} (q : Request)
-    → Met a t events at x r u entry′ free′ events′ → Serves a q t events at x (told r) u entry′ free′ (set events′ (r .events) (event (kind (r .outcome)) (q .file)))
+own-entry : {a : Tally} {t : Tables} {events : List ℕ} {at : ℕ} {x : Served State} {r : Untold} {u : Tables} {entry′ free′ events′ : List ℕ} (q : Request)
+    → Met a t events at x r u entry′ free′ events′ → Serves a q t events at x (told r) u entry′ free′ (set events′ (r .due) (event (kind (r .outcome)) (q .file)))
 own-entry {events = events} {at} {x} q m =
     let es : List ℕ = map evict (x .reply .evicted) in
     let own : ℕ = event (kind (x .reply .outcome)) (q .file) in
@@ -62,18 +64,18 @@ module _ {a : Tally} {q : Request} {t : Tables} {entry free events : List ℕ} {
   pub meetable : Meetable a due t entry free events at
   meetable = record { running = h .running; few = h .few; valued = rw paid (resolved-valued (a .settings .catalogue .0) q (h .ranged)); known = h .ranged .file; room = omega (arith, h .room) }
 
-  module _ {r : Step} {u : Tables} {entry′ free′ events′ : List ℕ} (m : Met a t events at (meets a due t) r u entry′ free′ events′) where
+  module _ {r : Untold} {u : Tables} {entry′ free′ events′ : List ℕ} (m : Met a t events at (meets a due t) r u entry′ free′ events′) where
     -- there is room for its own entry
-    pub own-room : r .events + 1 ≤ length events
+    pub own-room : r .due + 1 ≤ length events
     own-room = omega (arith, h .room, m .count, m .few, length-map (meets a due t .reply .evicted) evict)
 
     meets-step : meets a due t ≡ step (policyIn (a .settings)) (storeOf (a .settings)) (stateOf a t) q
     unfolding step
     meets-step = ap (λ (w : ℕ). meets a (asked (q .file) (q .size) w) t) paid
 
-    pub stepped : {v : ℕ} → v ≡ event (kind (r .outcome)) (q .file) → Stepped a q t events at (told r) u entry′ free′ (set events′ (r .events) v)
+    pub stepped : {v : ℕ} → v ≡ event (kind (r .outcome)) (q .file) → Stepped a q t events at (told r) u entry′ free′ (set events′ (r .due) v)
     stepped {v} e =
-        let y : Serves a q t events at (step (policyIn (a .settings)) (storeOf (a .settings)) (stateOf a t) q) (told r) u entry′ free′ (set events′ (r .events) v) =
-        subst (λ (x : Served State). Serves a q t events at x (told r) u entry′ free′ (set events′ (r .events) v)) meets-step
-        (subst (λ (w : ℕ). Serves a q t events at (meets a due t) (told r) u entry′ free′ (set events′ (r .events) w)) (sym e) (own-entry q m)) in
-        record { serves = y; running = running-next a t entry free (h .running) q (h .ranged) (h .few) (r .tally) u entry′ free′ (y .tally) (y .shelf) (y .live) (y .stack) }
+        let y : Serves a q t events at (step (policyIn (a .settings)) (storeOf (a .settings)) (stateOf a t) q) (told r) u entry′ free′ (set events′ (r .due) v) =
+        subst (λ (x : Served State). Serves a q t events at x (told r) u entry′ free′ (set events′ (r .due) v)) meets-step
+        (subst (λ (w : ℕ). Serves a q t events at (meets a due t) (told r) u entry′ free′ (set events′ (r .due) w)) (sym e) (own-entry q m)) in
+        record { serves = y; running = running-next a t entry free (h .running) q (h .ranged) (h .few) y }

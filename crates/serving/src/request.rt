@@ -1,6 +1,7 @@
 // One request: decided by the file number alone, then told in the event list.
-use crate::admit::admit;
 use crate::step::Step;
+use admitting::Untold;
+use admitting::admit;
 use amounts::Bytes;
 use amounts::Cost;
 use amounts::Places;
@@ -12,7 +13,8 @@ use shelving::hit;
 use shelving::wide16;
 use tables::Tally;
 ghost use Rattle.tables.specs.Tables.{tables};
-ghost use Rattle.serving.specs.Serving.{asked, Meetable, meets, Met, Servable, Stepped};
+ghost use Rattle.admitting.specs.Deciding.{asked, Meetable, meets, Met};
+ghost use Rattle.serving.specs.Serving.{Servable, Stepped};
 
 // A hit, a pass or an admission, w being the cost in force: of the events only the evictions are written.
 fn meet(
@@ -32,23 +34,23 @@ fn meet(
     free: &mut [u16],
     events: &mut [u32],
     at: usize,
-) -> Step
+) -> Untold
     requires { ⌜ Meetable a (asked f (z .0) (w .0)) (tables (now place) (now file) (now size) (now cost) (now freq) (now key) (now stamp) (now queue)) (now entry) (now free) (now events) at ⌝ }
     ensures { λ r. ⌜ Met a (tables (now (place .entry)) (now (file .entry)) (now (size .entry)) (now (cost .entry)) (now (freq .entry)) (now (key .entry)) (now (stamp .entry)) (now (queue .entry))) (now (events .entry)) at (meets a (asked f (z .0) (w .0)) (tables (now (place .entry)) (now (file .entry)) (now (size .entry)) (now (cost .entry)) (now (freq .entry)) (now (key .entry)) (now (stamp .entry)) (now (queue .entry)))) r (tables (now (place .exit)) (now (file .exit)) (now (size .exit)) (now (cost .exit)) (now (freq .exit)) (now (key .exit)) (now (stamp .exit)) (now (queue .exit))) (now (entry .exit)) (now (free .exit)) (now (events .exit)) ⌝ }
 {
     let home = place[f];
     if home != Places::NONE {
-        return Step {
+        return Untold {
             outcome: Outcome::Hit,
             tally: hit(a, wide16(home), size, cost, freq, key, stamp, queue, entry),
-            events: at,
+            due: at,
         };
     }
     if !z.at_most(a.settings.capacity) {
-        return Step {
+        return Untold {
             outcome: Outcome::Passed(Pass::TooBig),
             tally: with_pass(a, z, w),
-            events: at,
+            due: at,
         };
     }
     admit(
@@ -113,9 +115,9 @@ pub fn serve(
     );
     let outcome = met.outcome;
     let tally = met.tally;
-    let end = met.events;
-    events[end] = event(outcome.kind(), f);
-    let next = end + 1;
+    let due = met.due;
+    events[due] = event(outcome.kind(), f);
+    let next = due + 1;
     Step {
         outcome,
         tally,

@@ -3,7 +3,8 @@ use Prim.Native.Nat.{_<_, _≤_}
 use mathlib.Core.Path.{_≡_, refl, sym, _∙_, subst}
 use native.Mathlib.Omega.{arith}
 use borrow.Author.Needs.{needs}
-use Rattle.serving.proofs.Meetings.{countable, bigs, admissible, admitted}
+use Rattle.admitting.proofs.Meetings.{countable}
+use Rattle.serving.proofs.Misses.{bigs, admissible, admitted}
 use Rattle.serving.proofs.Hits.{hittable-at, strikes-at}
 use Rattle.serving.proofs.request.meet.Statement.{statement}
 use Rattle.serving.proofs.request.meet.Tie as tie

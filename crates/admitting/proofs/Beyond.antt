@@ -12,7 +12,7 @@ use Rattle.tables.specs.Sound.{At}
 use Rattle.shelving.specs.Live.{Live}
 use Rattle.shelving.specs.Evicting.{withQueue, lastPlace, dropLast, dropAll}
 use Rattle.shelving.specs.Records.{putAt}
-use Rattle.serving.specs.Serving.{beyondOf}
+use Rattle.admitting.specs.Deciding.{beyondOf}
 use Rattle.shelving.proofs.Dropping.{live-last}
 use Rattle.method.specs.Shelf.{Kept}
 

@@ -34,11 +34,12 @@ use Rattle.shelving.proofs.Lives.{live-same, stack-same}
 use Rattle.shelving.proofs.Popping.{Stopped, stopped, Taken, taken, aside-without}
 use Rattle.counting.specs.Counting.{passTally}
 use Rattle.newcomer.specs.Newcomer.{limitOf, baseOf, newRecord}
-use Rattle.serving.specs.Serving.{Met, Admissible, admits, goneIn, leftIn, Enterable, enters, beyondOf}
-use Rattle.serving.specs.declared.step.Step.{Step}
-use Rattle.serving.proofs.Beyond.{drop-same, beyond-queue}
-use Rattle.serving.proofs.Runnings.{running-bytes}
-use Rattle.serving.proofs.Meetings as meetings
+use Rattle.admitting.specs.Deciding.{Met, beyondOf}
+use Rattle.admitting.specs.Admitting.{Admissible, admits, goneIn, leftIn, Enterable, enters}
+use Rattle.admitting.specs.declared.untold.Untold.{Untold}
+use Rattle.admitting.proofs.Beyond.{drop-same, beyond-queue}
+use Rattle.admitting.proofs.Runnings.{running-bytes}
+use Rattle.admitting.proofs.Meetings as meetings
 
 -- ---- either policy, from what is set aside up to its limit
 
@@ -169,7 +170,7 @@ module _ {a : Tally} {q : Request} {t : Tables} {entry free events : List ℕ} {
 
       -- nothing but the queue's arrangement has changed
       pub lows : (queue₂ entry₂ : List ℕ) (b : Tally) → Again queue₁ entry₁ queue₂ entry₂ (t .key) (t .stamp) (a .«files_kept») → b ≡ passTally a (q .size) (q .cost)
-          → Met a t events at (admits a q t) (record { outcome = Passed LowKey; tally = b; events = at }) (withQueue queue₂ t) entry₂ free events
+          → Met a t events at (admits a q t) (record { outcome = Passed LowKey; tally = b; due = at }) (withQueue queue₂ t) entry₂ free events
       lows queue₂ entry₂ b g tl =
           let u : Tables = withQueue queue₂ t in
           let v : Live (a .settings) (a .«files_kept») (r .left) t₁ entry₁ = lowly .live in
@@ -190,7 +191,7 @@ module _ {a : Tally} {q : Request} {t : Tables} {entry free events : List ℕ} {
           (g .entry-long) (g .held) (g .past) (g .whole) in
           let past : drop (a .settings .places .0) queue₂ ≡ drop (a .settings .places .0) (t .queue) =
           drop-same (t .queue) queue₂ (a .«files_kept») (a .settings .places .0) (g .long ∙ y .long) (live .few) (λ i b. g .past i b ∙ popped-past (y .popped) .1 i b) in
-          subst (λ (x : Served State). Met a t events at x (record { outcome = Passed LowKey; tally = b; events = at }) u entry₂ free events) (sym (low-as (lowly .low)))
+          subst (λ (x : Served State). Met a t events at x (record { outcome = Passed LowKey; tally = b; due = at }) u entry₂ free events) (sym (low-as (lowly .low)))
           (meetings.passes (h .meetable) LowKey queue₂ entry₂ settled past b tl)
 
     -- ---- where there is room: it is evicted
@@ -245,7 +246,7 @@ module _ {a : Tally} {q : Request} {t : Tables} {entry free events : List ℕ} {
           }
 
       -- and what entering leaves is the admission
-      pub admitted : {w : Step} {u : Tables} {entry′ free′ events′ : List ℕ} → Met a t₁ events at (enters a q r t₁) w u entry′ free′ events′
+      pub admitted : {w : Untold} {u : Tables} {entry′ free′ events′ : List ℕ} → Met a t₁ events at (enters a q r t₁) w u entry′ free′ events′
           → Met a t events at (admits a q t) w u entry′ free′ events′
       admitted {w} {u} {entry′} {free′} {events′} d =
           let past : beyondOf (a .settings) t₁ ≡ beyondOf (a .settings) t =

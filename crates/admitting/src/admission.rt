@@ -1,5 +1,5 @@
 // The admission of a newcomer, by either policy.
-use crate::step::Step;
+use crate::untold::Untold;
 use amounts::Bytes;
 use amounts::Cost;
 use counting::with_pass;
@@ -17,7 +17,8 @@ use shelving::tell;
 use shelving::wide16;
 use tables::Tally;
 ghost use Rattle.tables.specs.Tables.{tables};
-ghost use Rattle.serving.specs.Serving.{asked, Enterable, enters, Admissible, admits, Met};
+ghost use Rattle.admitting.specs.Deciding.{asked, Met};
+ghost use Rattle.admitting.specs.Admitting.{Enterable, enters, Admissible, admits};
 
 // The newcomer enters where room was made: what was set aside is evicted in order, and it takes a free place.
 fn enter(
@@ -38,13 +39,13 @@ fn enter(
     free: &mut [u16],
     events: &mut [u32],
     at: usize,
-) -> Step
+) -> Untold
     requires { ⌜ Enterable a (asked f (z .0) (w .0)) room (tables (now place) (now file) (now size) (now cost) (now freq) (now key) (now stamp) (now queue)) (now entry) (now free) (now events) at ⌝ }
     ensures { λ r. ⌜ Met a (tables (now (place .entry)) (now (file .entry)) (now (size .entry)) (now (cost .entry)) (now (freq .entry)) (now (key .entry)) (now (stamp .entry)) (now (queue .entry))) (now (events .entry)) at (enters a (asked f (z .0) (w .0)) room (tables (now (place .entry)) (now (file .entry)) (now (size .entry)) (now (cost .entry)) (now (freq .entry)) (now (key .entry)) (now (stamp .entry)) (now (queue .entry)))) r (tables (now (place .exit)) (now (file .exit)) (now (size .exit)) (now (cost .exit)) (now (freq .exit)) (now (key .exit)) (now (stamp .exit)) (now (queue .exit))) (now (entry .exit)) (now (free .exit)) (now (events .exit)) ⌝ }
 {
     let n = a.files_kept as usize;
     let left = room.left;
-    let end = at + (n - left);
+    let due = at + (n - left);
     tell(n, left, file, queue, events, at);
     drop_behind(
         a.settings,
@@ -78,15 +79,15 @@ fn enter(
         queue,
         entry,
     );
-    Step {
+    Untold {
         outcome: Outcome::Admitted,
         tally: admitted(a, z, w, room),
-        events: end,
+        due,
     }
 }
 
 // The admission of a newcomer that is not too big: low where it would be taken itself, and then nothing is evicted.
-pub(crate) fn admit(
+pub fn admit(
     a: Tally,
     f: usize,
     z: Bytes,
@@ -103,7 +104,7 @@ pub(crate) fn admit(
     free: &mut [u16],
     events: &mut [u32],
     at: usize,
-) -> Step
+) -> Untold
     requires { ⌜ Admissible a (asked f (z .0) (w .0)) (tables (now place) (now file) (now size) (now cost) (now freq) (now key) (now stamp) (now queue)) (now entry) (now free) (now events) at ⌝ }
     ensures { λ r. ⌜ Met a (tables (now (place .entry)) (now (file .entry)) (now (size .entry)) (now (cost .entry)) (now (freq .entry)) (now (key .entry)) (now (stamp .entry)) (now (queue .entry))) (now (events .entry)) at (admits a (asked f (z .0) (w .0)) (tables (now (place .entry)) (now (file .entry)) (now (size .entry)) (now (cost .entry)) (now (freq .entry)) (now (key .entry)) (now (stamp .entry)) (now (queue .entry)))) r (tables (now (place .exit)) (now (file .exit)) (now (size .exit)) (now (cost .exit)) (now (freq .exit)) (now (key .exit)) (now (stamp .exit)) (now (queue .exit))) (now (entry .exit)) (now (free .exit)) (now (events .exit)) ⌝ }
 {
@@ -114,10 +115,10 @@ pub(crate) fn admit(
         let n = a.files_kept as usize;
         let left = room.left;
         put_back(n, left, key, stamp, queue, entry);
-        return Step {
+        return Untold {
             outcome: Outcome::Passed(Pass::LowKey),
             tally: with_pass(a, z, w),
-            events: at,
+            due: at,
         };
     }
     enter(

@@ -35,9 +35,10 @@ use Rattle.shelving.proofs.Dropping.{AllDropped, all-dropped}
 use Rattle.shelving.proofs.Tellings.{evictions-behind}
 use Rattle.counting.specs.Counting.{after, tallied, admitTotals}
 use Rattle.newcomer.specs.Newcomer.{newRecord, goneFor, admittedTally}
-use Rattle.serving.specs.Serving.{beyondOf, Met, goneIn, leftIn, Enterable, enters}
-use Rattle.serving.proofs.Beyond.{drop-same, beyond-put, beyond-all}
-use Rattle.serving.proofs.Tallies.{admit-totals, admit-kept, tallied-after}
+use Rattle.admitting.specs.Deciding.{beyondOf, Met}
+use Rattle.admitting.specs.Admitting.{goneIn, leftIn, Enterable, enters}
+use Rattle.admitting.proofs.Beyond.{drop-same, beyond-put, beyond-all}
+use Rattle.admitting.proofs.Tallies.{admit-totals, admit-kept, tallied-after}
 
 -- ---- what the steps ask
 
@@ -280,7 +281,7 @@ module _ {a : Tally} {q : Request} {room : Room} {t : Tables} {entry free events
         → Keeps (room .left) p (q .file) k (seven (t₁ .place) (t₁ .file) (t₁ .size) (t₁ .cost) (t₁ .freq) (t₁ .key) (t₁ .stamp))
         (seven (u .place) (u .file) (u .size) (u .cost) (u .freq) (u .key) (u .stamp)) (t₁ .queue) entry (u .queue) entry′
         → Told (a .«files_kept») (room .left) (t .file) (t .queue) events at events′ → b ≡ admittedTally a (q .size) (q .cost) room
-        → Met a t events at (enters a q room t) (record { outcome = Admitted; tally = b; events = at + goneFor a room }) u entry′ free₁ events′
+        → Met a t events at (enters a q room t) (record { outcome = Admitted; tally = b; due = at + goneFor a room }) u entry′ free₁ events′
     entered u entry′ events′ b ks told e =
         let m : ℕ = room .left in
         let new : Kept = newRecord a (q .size) (q .cost) room in
@@ -291,7 +292,7 @@ module _ {a : Tally} {q : Request} {room : Room} {t : Tables} {entry free events
         subst (λ (w : Tables). Topped s m (q .file) new t₁ free₁ w entry′) (sym lent)
         (topped (x .live) (x .stack) (h .one) (q .file) (h .known) (x .out) new p on-top (u .queue) entry′ ins) in
         let gone : length (goneIn a room t) ≡ goneFor a room = length-behind t (a .«files_kept») (goneFor a room) in
-        subst (λ (c : Tally). Met a t events at (enters a q room t) (record { outcome = Admitted; tally = c; events = at + goneFor a room }) u entry′ free₁ events′) (sym e)
+        subst (λ (c : Tally). Met a t events at (enters a q room t) (record { outcome = Admitted; tally = c; due = at + goneFor a room }) u entry′ free₁ events′) (sym e)
         (record {
           outcome = refl;
           tally = entered-tally;

@@ -1,24 +1,21 @@
 -- A request with its cost in force, at sound tables: what is known of it before it is decided, and a pass, which changes nothing but the tally. Assumes nothing.
 use mathlib.Core.Path.{_≡_, refl, sym, ap, _∙_, subst}
-use mathlib.Core.Bool.{Bool, true, false, not}
 use mathlib.Core.List.{List, []}
 use Prim.Native.Nat.{ℕ, suc, _+_, _≤_, _<_}
 use native.Mathlib.Omega.{arith}
 use lib.ListN.{length, getD, drop}
-use lib.Dec.{leb}
-use borrow.Author.Tests.{leb-true, leb-false, not-true, not-false, le-leb, lt-ltb, le-ltb}
+use borrow.Author.Tests.{le-leb, le-ltb}
 use Rattle.amounts.specs.Limits.{noPlace, requestsMost, sizeMost, costMost}
 use Rattle.amounts.specs.Worth.{inForce}
 use Rattle.amounts.specs.Requests.{Request, resolved, Ranged}
 use Rattle.amounts.specs.declared.settings.Settings.{Settings}
-use Rattle.amounts.proofs.Tests.{in-one-to, pick-true, pick-false}
+use Rattle.amounts.proofs.Tests.{in-one-to, pick-false}
 use Rattle.amounts.proofs.Values.{in-force-some}
 use Rattle.method.specs.Shelf.{none, Shelf}
 use Rattle.method.specs.Method.{Policy, State, Served, served, missed, meet, step}
 use Rattle.method.specs.Method as method
 use Rattle.method.specs.Promise.{SoundAt, Small}
 use Rattle.method.specs.declared.outcome.Pass.{Pass}
-use Rattle.method.specs.declared.outcome.Pass.the-variants.{TooBig}
 use Rattle.method.specs.declared.outcome.Outcome.the-variants.{Passed}
 use Rattle.method.proofs.Sound.{step-sound}
 use Rattle.method.proofs.Demand.{sound-small}
@@ -31,11 +28,11 @@ use Rattle.shelving.specs.Live.{Live, Stack}
 use Rattle.shelving.specs.Evicting.{withQueue}
 use Rattle.shelving.proofs.Lives.{stack-same}
 use Rattle.counting.specs.Counting.{passTally, Countable}
-use Rattle.serving.specs.Serving.{Met, Meetable, meets, Admissible, admits}
-use Rattle.serving.specs.declared.step.Step.{Step}
-use Rattle.serving.proofs.Beyond.{beyond-queue}
-use Rattle.serving.proofs.Runnings.{running-live, running-stack}
-use Rattle.serving.proofs.Tallies.{plus-zero, pass-totals, tallied-after}
+use Rattle.admitting.specs.Deciding.{Met, Meetable, meets}
+use Rattle.admitting.specs.Admitting.{admits}
+use Rattle.admitting.proofs.Beyond.{beyond-queue}
+use Rattle.admitting.proofs.Runnings.{running-live, running-stack}
+use Rattle.admitting.proofs.Tallies.{plus-zero, pass-totals, tallied-after}
 
 module _ {a : Tally} {q : Request} {t : Tables} {entry free events : List ℕ} {at : ℕ} (h : Meetable a q t entry free events at) where
   abbrev s : Settings
@@ -102,14 +99,14 @@ module _ {a : Tally} {q : Request} {t : Tables} {entry free events : List ℕ} {
       (sound-small policy store _ (suc (a .requests)) (step-sound policy store one-place (stateOf a t) (a .requests) sound q ranged) (omega (arith, h .few)))
 
   -- a pass, for whatever reason: the queue may stand in another order
-  abbrev passed : Pass → Served State
+  abbrev pub passed : Pass → Served State
   passed w = served (a .inflation .0) shelf (stampOf a) (missed q [] (Passed w))
 
   pub passes : (w : Pass) (queue′ entry′ : List ℕ) → Live s (a .«files_kept») (a .«files_kept») (withQueue queue′ t) entry′
       → drop (s .places .0) queue′ ≡ drop (s .places .0) (t .queue) → (b : Tally) → b ≡ passTally a (q .size) (q .cost)
-      → Met a t events at (passed w) (record { outcome = Passed w; tally = b; events = at }) (withQueue queue′ t) entry′ free events
+      → Met a t events at (passed w) (record { outcome = Passed w; tally = b; due = at }) (withQueue queue′ t) entry′ free events
   passes w queue′ entry′ l past b e =
-      subst (λ (c : Tally). Met a t events at (passed w) (record { outcome = Passed w; tally = c; events = at }) (withQueue queue′ t) entry′ free events) (sym e)
+      subst (λ (c : Tally). Met a t events at (passed w) (record { outcome = Passed w; tally = c; due = at }) (withQueue queue′ t) entry′ free events) (sym e)
       (record {
         outcome = refl;
         tally = tallied-after a (passed w) (h .running .sound .bytes) (h .running .sound .files) (pass-totals (totalsOf a) (q .size) (q .cost) w);
@@ -124,7 +121,7 @@ module _ {a : Tally} {q : Request} {t : Tables} {entry free events : List ℕ} {
         past = beyond-queue s t queue′ past;
       })
 
-  -- ---- a file that is not kept: too big for the store, or to be admitted
+  -- ---- a file that is not kept
 
   module _ (out : getD (t .place) (q .file) 0 ≡ noPlace) where
     pub slot-free : getD shelf (q .file) none ≡ none
@@ -132,21 +129,3 @@ module _ {a : Tally} {q : Request} {t : Tables} {entry free events : List ℕ} {
 
     pub small-as : q .size ≤ s .capacity .0 → meets a q t ≡ admits a q t
     small-as b = rw slot-free (pick-false _ _ (le-ltb (s .capacity .0) (q .size) b))
-
-    -- by the test of its size
-    module _ {fits : Bool} (e : fits ≡ leb (q .size) (s .capacity .0)) where
-      pub bigs : not fits ≡ true → {b : Tally} → b ≡ passTally a (q .size) (q .cost)
-          → Met a t events at (meets a q t) (record { outcome = Passed TooBig; tally = b; events = at }) t entry free events
-      bigs above {b} tl =
-          let x : meets a q t ≡ passed TooBig = rw slot-free (pick-true _ _ (lt-ltb (s .capacity .0) (q .size) (leb-false _ _ (sym e ∙ not-true fits above)))) in
-          subst (λ (y : Served State). Met a t events at y (record { outcome = Passed TooBig; tally = b; events = at }) t entry free events) (sym x)
-          (passes TooBig (t .queue) entry live refl b tl)
-
-      module _ (below : not fits ≡ false) where
-        pub admissible : Admissible a q t entry free events at
-        admissible = record { meetable = h; out = out; small = leb-true _ _ (sym e ∙ not-false fits below) }
-
-        pub admitted : {r : Step} {u : Tables} {entry′ free′ events′ : List ℕ} → Met a t events at (admits a q t) r u entry′ free′ events′
-            → Met a t events at (meets a q t) r u entry′ free′ events′
-        admitted {r} {u} {entry′} {free′} {events′} m =
-            subst (λ (y : Served State). Met a t events at y r u entry′ free′ events′) (sym (small-as (admissible .small))) m
