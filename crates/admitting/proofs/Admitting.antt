@@ -13,7 +13,7 @@ use Rattle.amounts.specs.Limits.{requestsMost, word}
 use Rattle.amounts.specs.Worth.{worthMost, productOf}
 use Rattle.amounts.specs.Requests.{Request}
 use Rattle.amounts.proofs.Values.{product-most}
-use Rattle.method.specs.Shelf.{Kept, none, kept, Shelf, bytes, files, Each}
+use Rattle.method.specs.Shelf.{none, kept, Shelf, bytes, files, Each}
 use Rattle.method.specs.Method.{Policy, gds, gdsf, Gone, State, Served, served, missed, keyed, newcomer, admit}
 use Rattle.method.specs.Method as method
 use Rattle.method.specs.Promise.{Small}
@@ -25,7 +25,7 @@ use Rattle.tables.specs.declared.tally.Tally.{Tally}
 use Rattle.tables.proofs.Ranges.{bounded}
 use Rattle.tables.proofs.Shelves.{shelf-length, shelf-queue}
 use Rattle.shelving.specs.Taking.{Aside, aside}
-use Rattle.shelving.specs.Live.{Live, Stack}
+use Rattle.shelving.specs.Live.{Live}
 use Rattle.shelving.specs.Room.{roomFor, Roomless, Roomed, Popped, none, more, Apiece, Again}
 use Rattle.shelving.specs.Evicting.{withQueue, without}
 use Rattle.shelving.specs.declared.room.Room.{Room}
@@ -34,11 +34,10 @@ use Rattle.shelving.proofs.Lives.{live-same, stack-same}
 use Rattle.shelving.proofs.Popping.{Stopped, stopped, Taken, taken, aside-without}
 use Rattle.counting.specs.Counting.{passTally}
 use Rattle.newcomer.specs.Newcomer.{limitOf, baseOf, newRecord}
-use Rattle.admitting.specs.Deciding.{Met, beyondOf}
+use Rattle.admitting.specs.Deciding.{Met, meets, beyondOf}
 use Rattle.admitting.specs.Admitting.{Admissible, admits, goneIn, leftIn, Enterable, enters}
 use Rattle.admitting.specs.declared.untold.Untold.{Untold}
 use Rattle.admitting.proofs.Beyond.{drop-same, beyond-queue}
-use Rattle.admitting.proofs.Runnings.{running-bytes}
 use Rattle.admitting.proofs.Meetings as meetings
 
 -- ---- either policy, from what is set aside up to its limit
@@ -100,7 +99,7 @@ module _ {a : Tally} {q : Request} {t : Tables} {entry free events : List ℕ} {
   made = aside store (q .size) limit (length shelf) (a .inflation .0) shelf
 
   live : Live (a .settings) (a .«files_kept») (a .«files_kept») t entry
-  live = meetings.live (h .meetable)
+  live = meetings.live (h .meetable .running)
 
   newest : Newest (q .file) (keyed (a .inflation .0) (q .size) (q .cost) 1 (stampOf a)) shelf
   newest =
@@ -113,10 +112,10 @@ module _ {a : Tally} {q : Request} {t : Tables} {entry free events : List ℕ} {
   stays-as : made .low ≡ false
       → admits a q t
       ≡ served (made .inflation) (set (made .shelf) (q .file) (newcomer (baseOf policy (a .inflation .0) (made .inflation)) q (stampOf a))) (stampOf a) (missed q (made .gone) Admitted)
-  stays-as e = admit-stays store (a .inflation .0) shelf (stampOf a) q (h .small) (meetings.one-place (h .meetable)) newest keys-small policy e
+  stays-as e = admit-stays store (a .inflation .0) shelf (stampOf a) q (h .small) (meetings.one-place (h .meetable .running)) newest keys-small policy e
 
   low-as : made .low ≡ true → admits a q t ≡ served (a .inflation .0) shelf (stampOf a) (missed q [] (Passed LowKey))
-  low-as e = admit-low store (a .inflation .0) shelf (stampOf a) q (h .small) (meetings.one-place (h .meetable)) newest keys-small policy e
+  low-as e = admit-low store (a .inflation .0) shelf (stampOf a) q (h .small) (meetings.one-place (h .meetable .running)) newest keys-small policy e
 
   -- ---- what making room asks
 
@@ -132,10 +131,10 @@ module _ {a : Tally} {q : Request} {t : Tables} {entry free events : List ℕ} {
       record {
         whole = live .whole;
         sized = λ i b. omega (arith, live .queued .entries i b .inside, run .long .size);
-        bytes = running-bytes a t entry free run;
+        bytes = meetings.held-bytes run;
         fits = omega (arith, run .sound .bytes, run .sound .shelf .bytes, h .small, bounded (a .settings) (run .ranged) .capacity .1);
         small = h .small;
-        one = meetings.one-place (h .meetable);
+        one = meetings.one-place (h .meetable .running);
       }
 
   -- ---- what was set aside, up to the limit k
@@ -198,7 +197,8 @@ module _ {a : Tally} {q : Request} {t : Tables} {entry free events : List ℕ} {
 
     module _ (e : r .low ≡ false) where
       stays : Stopped (a .settings) (a .«files_kept») t entry (q .size) limit (a .inflation .0) (a .«bytes_kept» .0) live
-          (meetings.sound (h .meetable) .apart) (h .meetable .running .sound .files) (h .meetable .running .sound .bytes) queue₁ entry₁ (r .left) (r .inflation .0) (r .bytes .0)
+          (meetings.sound (h .meetable) .apart) (h .meetable .running .sound .files) (h .meetable .running .sound .bytes) queue₁ entry₁
+          (r .left) (r .inflation .0) (r .bytes .0)
       stays = stopped _ _ _ _ _ _ _ _ live _ _ _ (y .popped) (y .room e)
 
       has-room : (r .bytes .0 + q .size ≤ a .settings .capacity .0) × (r .left + 1 ≤ a .settings .places .0)
@@ -212,12 +212,14 @@ module _ {a : Tally} {q : Request} {t : Tables} {entry free events : List ℕ} {
       enters-as : admits a q t ≡ enters a q r t₁
       enters-as =
           stays-as (stays .low)
-          ∙ (λ i. served (stays .inflation i) (set (left-as i) (q .file) (newcomer (baseOf policy (a .inflation .0) (stays .inflation i)) q (stampOf a))) (stampOf a) (missed q (stays .gone i) Admitted))
+          ∙ (λ i. served (stays .inflation i) (set (left-as i) (q .file) (newcomer (baseOf policy (a .inflation .0) (stays .inflation i)) q (stampOf a)))
+          (stampOf a) (missed q (stays .gone i) Admitted))
 
       -- the newcomer's key fits, as every key of the state that it makes
       new-key : newRecord a (q .size) (q .cost) r .key < word
       new-key =
-          let z : Small (enters a q r t₁ .state) = subst (λ (x : Served State). Small (x .state)) (meetings.small-as (h .meetable) (h .out) (h .small) ∙ enters-as) (meetings.small-after (h .meetable)) in
+          let made-so : meets a q t ≡ enters a q r t₁ = meetings.small-as (h .meetable) (h .out) (h .small) ∙ enters-as in
+          let z : Small (enters a q r t₁ .state) = subst (λ (x : Served State). Small (x .state)) made-so (meetings.small-after (h .meetable)) in
           let cat : ℕ = a .settings .catalogue .0 in
           let inside : q .file < length (leftIn a r t₁) =
           omega (arith, h .meetable .known, length-without (goneIn a r t₁) (shelfOf cat t₁), shelf-length cat t₁ (h .meetable .running .long .place)) in
@@ -229,7 +231,7 @@ module _ {a : Tally} {q : Request} {t : Tables} {entry free events : List ℕ} {
             live = stays .live;
             stack =
                 stack-same (a .settings) (a .«files_kept») (a .«files_kept») t t₁ entry entry live refl refl
-                (λ p _. record { file = refl; size = refl; cost = refl; freq = refl; key = refl; stamp = refl }) free (meetings.stack (h .meetable));
+                (λ p _. record { file = refl; size = refl; cost = refl; freq = refl; key = refl; stamp = refl }) free (meetings.stack (h .meetable .running));
             one = omega (arith, has-room .1);
             known = h .meetable .known;
             out = h .out;

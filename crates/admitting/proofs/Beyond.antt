@@ -7,14 +7,13 @@ use lib.ListN.{length, getD, set, drop, length-drop}
 use lib.Seq.{drop-set-lt, getD-drop, ext-getD}
 use Rattle.amounts.specs.Limits.{noPlace}
 use Rattle.amounts.specs.declared.settings.Settings.{Settings}
-use Rattle.tables.specs.Tables.{Tables, beyond}
-use Rattle.tables.specs.Sound.{At}
+use Rattle.tables.specs.Tables.{Tables}
+use Rattle.tables.specs.Sound.{Occupied}
+use Rattle.tables.proofs.Lengths.{tables-eq}
 use Rattle.shelving.specs.Live.{Live}
 use Rattle.shelving.specs.Evicting.{withQueue, lastPlace, dropLast, dropAll}
-use Rattle.shelving.specs.Records.{putAt}
-use Rattle.admitting.specs.Deciding.{beyondOf}
 use Rattle.shelving.proofs.Dropping.{live-last}
-use Rattle.method.specs.Shelf.{Kept}
+use Rattle.admitting.specs.Deciding.{beyondOf}
 
 -- a list that differs in the first k entries only is the same from there on
 pub drop-same : (l m : List ℕ) (k n : ℕ) → length m ≡ length l → k ≤ n → ((i : ℕ) → k ≤ i → getD m i 0 ≡ getD l i 0) → drop n m ≡ drop n l
@@ -22,50 +21,17 @@ drop-same l m k n e b h =
     ext-getD 0 (drop n m) (drop n l) (length-drop n m ∙ ap (λ (x : ℕ). x - n) e ∙ sym (length-drop n l))
     (λ i _. getD-drop n m i 0 ∙ h (n + i) (omega arith) ∙ sym (getD-drop n l i 0))
 
--- one record and one place written
-pub beyond-put : (s : Settings) (p f : ℕ) (k : Kept) (t : Tables) (q : List ℕ) → p < s .places .0 → f < s .catalogue .0 → drop (s .places .0) q ≡ drop (s .places .0) (t .queue)
-    → beyondOf s (withQueue q (putAt p f k t)) ≡ beyondOf s t
-beyond-put s p f k t q hp hf hq =
-    λ i. record {
-      place = drop-set-lt (s .catalogue .0) (t .place) f p hf i;
-      file = drop-set-lt (s .places .0) (t .file) p f hp i;
-      size = drop-set-lt (s .places .0) (t .size) p (k .size) hp i;
-      cost = drop-set-lt (s .places .0) (t .cost) p (k .cost) hp i;
-      freq = drop-set-lt (s .places .0) (t .freq) p (k .freq) hp i;
-      key = drop-set-lt (s .places .0) (t .key) p (k .key) hp i;
-      stamp = drop-set-lt (s .places .0) (t .stamp) p (k .stamp) hp i;
-      queue = hq i;
-    }
-
 -- another queue
 pub beyond-queue : (s : Settings) (t : Tables) (q : List ℕ) → drop (s .places .0) q ≡ drop (s .places .0) (t .queue) → beyondOf s (withQueue q t) ≡ beyondOf s t
-beyond-queue s t q hq =
-    let places : ℕ = s .places .0 in
-    λ i. record {
-      place = drop (s .catalogue .0) (t .place);
-      file = drop places (t .file);
-      size = drop places (t .size);
-      cost = drop places (t .cost);
-      freq = drop places (t .freq);
-      key = drop places (t .key);
-      stamp = drop places (t .stamp);
-      queue = hq i;
-    }
+beyond-queue s t q hq = tables-eq refl refl refl refl refl refl refl hq
 
-beyond-last : (s : Settings) (n : ℕ) (t : Tables) → 0 < n → n ≤ s .places .0 → At s t (getD (t .file) (lastPlace n t) 0) (lastPlace n t) → beyondOf s (dropLast n t) ≡ beyondOf s t
+-- a file dropped, and all behind the queue
+beyond-last : (s : Settings) (n : ℕ) (t : Tables) → 0 < n → n ≤ s .places .0 → Occupied s t (lastPlace n t) → beyondOf s (dropLast n t) ≡ beyondOf s t
 beyond-last s n t pos few a =
     let p : ℕ = lastPlace n t in
-    let f : ℕ = getD (t .file) p 0 in
-    λ i. record {
-      place = drop-set-lt (s .catalogue .0) (t .place) f noPlace (a .known) i;
-      file = drop-set-lt (s .places .0) (t .file) p 0 (a .inside) i;
-      size = drop-set-lt (s .places .0) (t .size) p 0 (a .inside) i;
-      cost = drop-set-lt (s .places .0) (t .cost) p 0 (a .inside) i;
-      freq = drop-set-lt (s .places .0) (t .freq) p 0 (a .inside) i;
-      key = drop-set-lt (s .places .0) (t .key) p 0 (a .inside) i;
-      stamp = drop-set-lt (s .places .0) (t .stamp) p 0 (a .inside) i;
-      queue = drop-set-lt (s .places .0) (t .queue) (n - 1) 0 (omega arith) i;
-    }
+    let same : (l : List ℕ) → drop (s .places .0) (set l p 0) ≡ drop (s .places .0) l = λ l. drop-set-lt (s .places .0) l p 0 (a .inside) in
+    tables-eq (drop-set-lt (s .catalogue .0) (t .place) (getD (t .file) p 0) noPlace (a .known)) (same (t .file)) (same (t .size)) (same (t .cost)) (same (t .freq)) (same (t .key))
+    (same (t .stamp)) (drop-set-lt (s .places .0) (t .queue) (n - 1) 0 (omega arith))
 
 pub beyond-all : (s : Settings) (n m k : ℕ) (t : Tables) (entry : List ℕ) → m + k ≡ n → Live s n m t entry → beyondOf s (dropAll k n t) ≡ beyondOf s t
 unfolding dropAll

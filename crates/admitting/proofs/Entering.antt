@@ -1,7 +1,7 @@
 -- A newcomer enters: what its steps ask, and what they leave together. Assumes nothing.
 use mathlib.Core.Path.{_≡_, refl, sym, ap, _∙_, subst, subst₂}
 use mathlib.Core.Logic.{⊎-elim}
-use mathlib.Core.List.{List, map}
+use mathlib.Core.List.{List}
 use Prim.Native.Nat.{ℕ, zero, suc, _+_, _-_, _≤_, _<_}
 use native.Mathlib.Omega.{arith}
 use lib.ListN.{length, getD, set, length-set, length-map}
@@ -14,30 +14,30 @@ use Rattle.amounts.proofs.Tests.{same, below}
 use Rattle.queue.specs.Queue.{times, Insertable, Inserted}
 use Rattle.queue.proofs.Totals.{times-found, Found}
 use Rattle.method.specs.Shelf.{Kept, none, kept, Shelf}
-use Rattle.method.specs.Method.{Gone}
 use Rattle.method.specs.Events.{evict}
 use Rattle.method.specs.declared.outcome.Outcome.the-variants.{Admitted}
-use Rattle.tables.specs.Tables.{Tables, recordAt, shelfOf}
+use Rattle.tables.specs.Tables.{Tables, shelfOf}
 use Rattle.tables.specs.Tally.{totalsOf}
 use Rattle.tables.specs.Sound.{At, Occupied}
 use Rattle.tables.specs.declared.tally.Tally.{Tally}
 use Rattle.tables.proofs.Counting.{times-twice}
-use Rattle.tables.proofs.Shelves.{shelf-at, shelf-length, shelf-change, slot-none, slot-kept}
+use Rattle.tables.proofs.Shelves.{shelf-at, shelf-length, slot-none}
 use Rattle.shelving.specs.Live.{Live, Stack}
 use Rattle.shelving.specs.Evicting.{withQueue, behind, lastPlace, dropLast, dropAll, Droppable, Dropped}
-use Rattle.shelving.specs.Records.{seven, putAt, Within, keptOf, Keepable, Keeps}
+use Rattle.shelving.specs.Records.{seven, Within, keptOf, Keepable, Keeps}
 use Rattle.shelving.specs.Telling.{Tellable, Told}
 use Rattle.shelving.specs.declared.records.Kept as records
 use Rattle.shelving.specs.declared.room.Room.{Room}
-use Rattle.shelving.proofs.Links.{But, at-occupied}
+use Rattle.shelving.proofs.Links.{at-occupied}
 use Rattle.shelving.proofs.Lives.{live-keep, stack-keep}
 use Rattle.shelving.proofs.Dropping.{AllDropped, all-dropped}
 use Rattle.shelving.proofs.Tellings.{evictions-behind}
-use Rattle.counting.specs.Counting.{after, tallied, admitTotals}
+use Rattle.counting.specs.Counting.{after, admitTotals}
 use Rattle.newcomer.specs.Newcomer.{newRecord, goneFor, admittedTally}
 use Rattle.admitting.specs.Deciding.{beyondOf, Met}
 use Rattle.admitting.specs.Admitting.{goneIn, leftIn, Enterable, enters}
-use Rattle.admitting.proofs.Beyond.{drop-same, beyond-put, beyond-all}
+use Rattle.admitting.proofs.Beyond.{drop-same, beyond-all}
+use Rattle.admitting.proofs.Putting.{keptAt, put}
 use Rattle.admitting.proofs.Tallies.{admit-totals, admit-kept, tallied-after}
 
 -- ---- what the steps ask
@@ -82,10 +82,6 @@ out-all (suc k) n t f cat b l e =
     (same f g))
 
 -- ---- a file kept at the free place on top
-
--- u is t with file f kept at place p, and the queue q
-abbrev keptAt : ℕ → ℕ → Kept → Tables → List ℕ → Tables
-keptAt p f k t q = withQueue q (putAt p f k t)
 
 -- what is left then
 record Topped (s : Settings) (m f : ℕ) (k : Kept) (t : Tables) (free : List ℕ) (u : Tables) (entry′ : List ℕ) : Type 0 where
@@ -146,65 +142,17 @@ module _ {s : Settings} {m : ℕ} {t : Tables} {entry free : List ℕ} (h : Live
       p-free : Occupied s t p → ⊥
       p-free o = top-free (subst (Occupied s t) is-p o)
 
-      but : But f p t u
-      but =
-          record {
-            places = λ g ne. getD-set-other (t .place) f g p 0 ne;
-            records = λ j ne.
-                record {
-                  file = getD-set-other (t .file) p j f 0 ne;
-                  size = getD-set-other (t .size) p j (k .size) 0 ne;
-                  cost = getD-set-other (t .cost) p j (k .cost) 0 ne;
-                  freq = getD-set-other (t .freq) p j (k .freq) 0 ne;
-                  key = getD-set-other (t .key) p j (k .key) 0 ne;
-                  stamp = getD-set-other (t .stamp) p j (k .stamp) 0 ne;
-                };
-          }
-
-      at : At s u f p
-      at =
-          record {
-            known = known;
-            inside = p-in;
-            place = getD-set-same (t .place) f p 0 (omega (arith, h .long .place));
-            file = getD-set-same (t .file) p f 0 (omega (arith, p-in, h .long .file));
-          }
-
-      record-kept : recordAt u p ≡ k
-      record-kept =
-          λ i. record {
-            size = getD-set-same (t .size) p (k .size) 0 (omega (arith, p-in, h .long .size)) i;
-            cost = getD-set-same (t .cost) p (k .cost) 0 (omega (arith, p-in, h .long .cost)) i;
-            freq = getD-set-same (t .freq) p (k .freq) 0 (omega (arith, p-in, h .long .freq)) i;
-            key = getD-set-same (t .key) p (k .key) 0 (omega (arith, p-in, h .long .key)) i;
-            stamp = getD-set-same (t .stamp) p (k .stamp) 0 (omega (arith, p-in, h .long .stamp)) i;
-          }
-
       topped : Topped s m f k t free u entry′
       topped =
+          let y = put s p f k t q (h .places) (h .long) p-in known in
           record {
             live =
-                live-keep s m f p t u entry entry′ free h st room out (sym is-p) but at (r .held) (r .apart .past)
-                (record {
-                  place = simp length-set (h .long .place);
-                  file = simp length-set (h .long .file);
-                  size = simp length-set (h .long .size);
-                  cost = simp length-set (h .long .cost);
-                  freq = simp length-set (h .long .freq);
-                  key = simp length-set (h .long .key);
-                  stamp = simp length-set (h .long .stamp);
-                  queue = omega (arith, h .long .queue, r .apart .long);
-                })
-                (r .apart .entries) (r .whole);
-            stack = stack-keep s m f p t u entry entry′ free h st room out (sym is-p) but at (r .held) (r .apart .past);
+                live-keep s m f p t u entry entry′ free h st room out (sym is-p) (y .but) (y .at) (r .held) (r .apart .past) (y .long (r .apart .long)) (r .apart .entries) (r .whole);
+            stack = stack-keep s m f p t u entry entry′ free h st room out (sym is-p) (y .but) (y .at) (r .held) (r .apart .past);
             shelf =
-                shelf-change (s .catalogue .0) t u f p p known (h .long .place) refl
-                (λ j ne.
-                let x = but .records j ne in
-                λ i. record { size = x .size i; cost = x .cost i; freq = x .freq i; key = x .key i; stamp = x .stamp i })
-                (λ j b ne e. ⊎-elim (λ z. omega (arith, p-in, h .places)) (λ c. p-free (at-occupied s t j p (subst (At s t j) e c))) (h .linked .out j b))
-                ∙ ap (set (shelfOf (s .catalogue .0) t) f) (slot-kept u p (λ z. omega (arith, p-in, h .places)) ∙ ap kept record-kept);
-            past = beyond-put s p f k t q p-in known (drop-same (t .queue) q (m + 1) (s .places .0) (r .apart .long) (omega arith) (r .apart .past));
+                y .shelf
+                (λ j b ne e. ⊎-elim (λ z. omega (arith, p-in, h .places)) (λ c. p-free (at-occupied s t j p (subst (At s t j) e c))) (h .linked .out j b));
+            past = y .past (drop-same (t .queue) q (m + 1) (s .places .0) (r .apart .long) (omega arith) (r .apart .past));
           }
 
 -- ---- together

@@ -1,6 +1,6 @@
 -- The laws of this room.
 pub mod Beyond
-pub mod Runnings
+pub mod Putting
 pub mod Tallies
 pub mod Meetings
 pub mod Entering

@@ -1,16 +1,17 @@
--- A request with its cost in force, at sound tables: what is known of it before it is decided, and a pass, which changes nothing but the tally. Assumes nothing.
+-- Between requests, and a request with its cost in force: what is known before it is decided, and a pass, which changes nothing but the tally. Assumes nothing.
 use mathlib.Core.Path.{_≡_, refl, sym, ap, _∙_, subst}
 use mathlib.Core.List.{List, []}
-use Prim.Native.Nat.{ℕ, suc, _+_, _≤_, _<_}
+use Prim.Native.Nat.{ℕ, suc, _≤_, _<_}
 use native.Mathlib.Omega.{arith}
 use lib.ListN.{length, getD, drop}
 use borrow.Author.Tests.{le-leb, le-ltb}
-use Rattle.amounts.specs.Limits.{noPlace, requestsMost, sizeMost, costMost}
+use Rattle.amounts.specs.Limits.{noPlace, sizeMost, costMost}
 use Rattle.amounts.specs.Worth.{inForce}
 use Rattle.amounts.specs.Requests.{Request, resolved, Ranged}
 use Rattle.amounts.specs.declared.settings.Settings.{Settings}
 use Rattle.amounts.proofs.Tests.{in-one-to, pick-false}
 use Rattle.amounts.proofs.Values.{in-force-some}
+use Rattle.queue.proofs.Index.{distinct}
 use Rattle.method.specs.Shelf.{none, Shelf}
 use Rattle.method.specs.Method.{Policy, State, Served, served, missed, meet, step}
 use Rattle.method.specs.Method as method
@@ -22,17 +23,67 @@ use Rattle.method.proofs.Demand.{sound-small}
 use Rattle.tables.specs.Tables.{Tables, slotOf, shelfOf}
 use Rattle.tables.specs.Tally.{storeOf, policyIn, stampOf, stateOf, totalsOf}
 use Rattle.tables.specs.declared.tally.Tally.{Tally}
-use Rattle.tables.proofs.Ranges.{bounded}
+use Rattle.tables.proofs.Ranges.{Bounded, bounded}
 use Rattle.tables.proofs.Shelves.{shelf-at, shelf-length, shelf-queue, slot-none}
 use Rattle.shelving.specs.Live.{Live, Stack}
+use Rattle.shelving.specs.Room.{queueBytes}
 use Rattle.shelving.specs.Evicting.{withQueue}
+use Rattle.shelving.proofs.Covers.{shelf-covered, sum-covered}
 use Rattle.shelving.proofs.Lives.{stack-same}
 use Rattle.counting.specs.Counting.{passTally, Countable}
-use Rattle.admitting.specs.Deciding.{Met, Meetable, meets}
+use Rattle.admitting.specs.Deciding.{Running, Met, Meetable, meets}
 use Rattle.admitting.specs.Admitting.{admits}
 use Rattle.admitting.proofs.Beyond.{beyond-queue}
-use Rattle.admitting.proofs.Runnings.{running-live, running-stack}
-use Rattle.admitting.proofs.Tallies.{plus-zero, pass-totals, tallied-after}
+use Rattle.admitting.proofs.Tallies.{pass-totals, tallied-after}
+
+-- ---- between requests
+
+module _ {a : Tally} {t : Tables} {entry free : List ℕ} (h : Running a t entry free) where
+  limits : Bounded (a .settings)
+  limits = bounded (a .settings) (h .ranged)
+
+  pub live : Live (a .settings) (a .«files_kept») (a .«files_kept») t entry
+  live =
+      let few : a .«files_kept» ≤ a .settings .places .0 = omega (arith, h .sound .files, h .sound .shelf .files) in
+      let inside : (i : ℕ) → i < a .«files_kept» → getD (t .queue) i 0 < a .settings .places .0 = λ i b. h .sound .queued .entries i b .inside in
+      record {
+        places = limits .places .1;
+        catalogue = limits .catalogue .1;
+        long = h .long;
+        entry-long = h .entry-long;
+        few = few;
+        part = omega arith;
+        linked = h .sound .linked;
+        queued = h .sound .queued;
+        whole =
+            record {
+              fit =
+                  record {
+                    few = omega (arith, few, limits .places .1);
+                    long = omega (arith, few, h .long .queue);
+                    entries = λ i b. omega (arith, inside i b, h .entry-long);
+                    keyed = λ i b. omega (arith, inside i b, h .long .key);
+                    stamped = λ i b. omega (arith, inside i b, h .long .stamp);
+                  };
+              ordered = h .sound .ordered;
+              indexed = h .desk .indexed;
+            };
+      }
+
+  pub stack : Stack (a .settings) (a .«files_kept») t free
+  stack = record { long = h .free-long; spare = h .desk .spare }
+
+  pub one-place : 1 ≤ a .settings .places .0
+  one-place = limits .places .0
+
+  -- the queue's bytes are the bytes kept
+  pub held-bytes : queueBytes (t .size) (t .queue) (a .«files_kept») ≡ a .«bytes_kept» .0
+  held-bytes =
+      sym (sum-covered (a .settings) t (t .queue) (a .«files_kept») (distinct (t .queue) entry (a .«files_kept») (h .desk .indexed)) (λ r. r .size) (a .«files_kept»)
+      (shelfOf (a .settings .catalogue .0) t) (omega arith) (shelf-covered (a .settings) (a .«files_kept») (a .«files_kept») t entry live))
+      ∙ h .sound .bytes
+
+-- ---- a request
 
 module _ {a : Tally} {q : Request} {t : Tables} {entry free events : List ℕ} {at : ℕ} (h : Meetable a q t entry free events at) where
   abbrev s : Settings
@@ -50,17 +101,8 @@ module _ {a : Tally} {q : Request} {t : Tables} {entry free events : List ℕ} {
   abbrev store : method.Settings
   store = storeOf (a .settings)
 
-  pub live : Live s (a .«files_kept») (a .«files_kept») t entry
-  live = running-live a t entry free (h .running)
-
-  pub stack : Stack s (a .«files_kept») t free
-  stack = running-stack a t entry free (h .running)
-
   pub sound : SoundAt policy store (stateOf a t) (a .requests)
   sound = h .running .sound .shelf
-
-  pub one-place : 1 ≤ store .places
-  one-place = bounded s (h .running .ranged) .places .0
 
   pub slot : getD shelf (q .file) none ≡ slotOf t (getD (t .place) (q .file) 0)
   slot = shelf-at cat t (q .file) (h .known) (h .running .long .place)
@@ -96,7 +138,7 @@ module _ {a : Tally} {q : Request} {t : Tables} {entry free events : List ℕ} {
   pub small-after : Small (meets a q t .state)
   small-after =
       subst (λ (x : Served State). Small (x .state)) step-meets
-      (sound-small policy store _ (suc (a .requests)) (step-sound policy store one-place (stateOf a t) (a .requests) sound q ranged) (omega (arith, h .few)))
+      (sound-small policy store _ (suc (a .requests)) (step-sound policy store (one-place (h .running)) (stateOf a t) (a .requests) sound q ranged) (omega (arith, h .few)))
 
   -- a pass, for whatever reason: the queue may stand in another order
   abbrev pub passed : Pass → Served State
@@ -113,11 +155,11 @@ module _ {a : Tally} {q : Request} {t : Tables} {entry free events : List ℕ} {
         shelf = shelf-queue cat (withQueue queue′ t) t refl refl refl refl refl refl;
         few = omega arith;
         written = refl;
-        count = plus-zero at;
+        count = omega arith;
         live = l;
         stack =
-            stack-same s (a .«files_kept») (a .«files_kept») t (withQueue queue′ t) entry entry live refl refl
-            (λ p _. record { file = refl; size = refl; cost = refl; freq = refl; key = refl; stamp = refl }) free stack;
+            stack-same s (a .«files_kept») (a .«files_kept») t (withQueue queue′ t) entry entry (live (h .running)) refl refl
+            (λ p _. record { file = refl; size = refl; cost = refl; freq = refl; key = refl; stamp = refl }) free (stack (h .running));
         past = beyond-queue s t queue′ past;
       })
 

@@ -1,11 +1,12 @@
 -- The tally after a request is the one that the method counts. Assumes nothing.
-use mathlib.Core.Path.{_≡_, sym, ap, _∙_}
+use mathlib.Core.Path.{_≡_, sym}
 use mathlib.Core.List.{List, []}
 use Prim.Native.Nat.{ℕ, _+_, _<_}
 use native.Mathlib.Omega.{arith}
+use native.Mathlib.Nat.{add-zero}
 use lib.ListN.{length, getD, set}
 use Rattle.method.specs.Shelf.{Kept, none, kept, Shelf, bytes, files}
-use Rattle.method.specs.Method.{Gone, Reply, State, Served}
+use Rattle.method.specs.Method.{Gone, State, Served}
 use Rattle.method.specs.Totals.{Totals, counted}
 use Rattle.method.specs.declared.outcome.Pass.{Pass}
 use Rattle.method.specs.declared.outcome.Outcome.the-variants.{Hit, Admitted, Passed}
@@ -14,53 +15,17 @@ use Rattle.tables.specs.Tally.{totalsOf}
 use Rattle.tables.specs.declared.tally.Tally.{Tally}
 use Rattle.counting.specs.Counting.{after, tallied, hitTotals, passTotals, admitTotals}
 
-pub plus-zero : (n : ℕ) → n ≡ n + 0
-plus-zero n = omega arith
-
 -- ---- the totals, by outcome
 
 pub hit-totals : (y : Totals) (size cost : ℕ) → hitTotals y size cost ≡ counted y (record { evicted = []; outcome = Hit; size = size; cost = cost })
-hit-totals y size cost =
-    λ i. record {
-      requests = y .requests + 1;
-      hits = y .hits + 1;
-      admitted = plus-zero (y .admitted) i;
-      passed = plus-zero (y .passed) i;
-      evicted = plus-zero (y .evicted) i;
-      bytes = y .bytes + size;
-      hitBytes = y .hitBytes + size;
-      cost = y .cost + cost;
-      hitCost = y .hitCost + cost;
-    }
+hit-totals y size cost = simp add-zero
 
 pub pass-totals : (y : Totals) (size cost : ℕ) (w : Pass) → passTotals y size cost ≡ counted y (record { evicted = []; outcome = Passed w; size = size; cost = cost })
-pass-totals y size cost w =
-    λ i. record {
-      requests = y .requests + 1;
-      hits = plus-zero (y .hits) i;
-      admitted = plus-zero (y .admitted) i;
-      passed = y .passed + 1;
-      evicted = plus-zero (y .evicted) i;
-      bytes = y .bytes + size;
-      hitBytes = plus-zero (y .hitBytes) i;
-      cost = y .cost + cost;
-      hitCost = plus-zero (y .hitCost) i;
-    }
+pass-totals y size cost w = simp add-zero
 
 pub admit-totals : (y : Totals) (size cost : ℕ) (gone : List Gone)
     → admitTotals y size cost (length gone) ≡ counted y (record { evicted = gone; outcome = Admitted; size = size; cost = cost })
-admit-totals y size cost gone =
-    λ i. record {
-      requests = y .requests + 1;
-      hits = plus-zero (y .hits) i;
-      admitted = y .admitted + 1;
-      passed = plus-zero (y .passed) i;
-      evicted = y .evicted + length gone;
-      bytes = y .bytes + size;
-      hitBytes = plus-zero (y .hitBytes) i;
-      cost = y .cost + cost;
-      hitCost = plus-zero (y .hitCost) i;
-    }
+admit-totals y size cost gone = simp add-zero
 
 -- ---- what is kept
 

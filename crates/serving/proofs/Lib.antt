@@ -1,5 +1,4 @@
 -- The laws of this room.
 pub mod Runnings
-pub mod Hits
-pub mod Misses
+pub mod Cases
 pub mod Servings

@@ -1,5 +1,5 @@
 -- One request served: its own entry is told beside what was decided, and the tables are sound again. Assumes nothing.
-use mathlib.Core.Path.{_≡_, refl, sym, ap, _∙_, subst}
+use mathlib.Core.Path.{_≡_, sym, ap, _∙_, subst}
 use mathlib.Core.List.{List, [], _∷_, _++_, map}
 use Prim.Native.Nat.{ℕ, suc, _+_, _≤_}
 use native.Mathlib.Omega.{arith}
@@ -8,7 +8,7 @@ use lib.Seq.{sets}
 use Rattle.amounts.specs.Worth.{inForce}
 use Rattle.amounts.specs.Requests.{Request}
 use Rattle.method.specs.Method.{State, Served, step}
-use Rattle.method.specs.Events.{event, kind, evict, entries}
+use Rattle.method.specs.Events.{event, kind, evict}
 use Rattle.method.specs.declared.outcome.Pass.the-variants.{TooBig, LowKey}
 use Rattle.method.specs.declared.outcome.Outcome.{Outcome}
 use Rattle.method.specs.declared.outcome.Outcome.the-variants.{Hit, Admitted, Passed}

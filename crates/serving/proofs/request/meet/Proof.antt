@@ -1,11 +1,7 @@
 -- `serving::request::meet` meets its contract. Assumes nothing.
-use Prim.Native.Nat.{_<_, _≤_}
-use mathlib.Core.Path.{_≡_, refl, sym, _∙_, subst}
-use native.Mathlib.Omega.{arith}
 use borrow.Author.Needs.{needs}
 use Rattle.admitting.proofs.Meetings.{countable}
-use Rattle.serving.proofs.Misses.{bigs, admissible, admitted}
-use Rattle.serving.proofs.Hits.{hittable-at, strikes-at}
+use Rattle.serving.proofs.Cases.{hittable-at, strikes-at, bigs, admissible, admitted}
 use Rattle.serving.proofs.request.meet.Statement.{statement}
 use Rattle.serving.proofs.request.meet.Tie as tie
 

@@ -1,33 +1,45 @@
--- A hit: the kept file's record is set anew, and everything else stays. Assumes nothing.
+-- One request by cases: a hit, a file too big, a newcomer to be admitted. Assumes nothing.
 use mathlib.Core.Path.{_≡_, refl, sym, ap, _∙_, subst}
 use mathlib.Core.Logic.{⊎-elim}
+use mathlib.Core.Bool.{Bool, true, false, not}
 use mathlib.Core.List.{List}
-use Prim.Native.Nat.{ℕ, _+_, _<_}
+use Prim.Native.Nat.{ℕ, _<_}
 use native.Mathlib.Omega.{arith}
-use lib.ListN.{length, getD, set, drop, length-set}
-use lib.Seq.{getD-set-same, getD-set-other, set-getD, drop-set-lt}
+use lib.Dec.{leb}
+use lib.ListN.{getD, set}
+use lib.Seq.{getD-set-same, set-getD}
+use borrow.Author.Tests.{leb-true, leb-false, not-true, not-false, lt-ltb}
 use Rattle.amounts.specs.Limits.{noPlace}
 use Rattle.amounts.specs.Requests.{Request}
 use Rattle.amounts.specs.declared.settings.Settings.{Settings}
+use Rattle.amounts.proofs.Tests.{pick-true}
 use Rattle.queue.proofs.Index.{held-entry}
-use Rattle.method.specs.Shelf.{Kept, none, kept, Shelf}
 use Rattle.method.specs.Method.{State, Served, keyed, again, hit}
 use Rattle.method.specs.Promise.{Small, Fine}
-use Rattle.method.specs.declared.outcome.Outcome.the-variants.{Hit}
+use Rattle.method.specs.Shelf.{Kept, none, kept, Shelf}
+use Rattle.method.specs.declared.outcome.Outcome.the-variants.{Hit, Passed}
+use Rattle.method.specs.declared.outcome.Pass.the-variants.{TooBig}
 use Rattle.method.proofs.Shelves.{sum-at}
-use Rattle.tables.specs.Tables.{Tables, tables, recordAt, shelfOf}
-use Rattle.tables.specs.Tally.{policyIn, stampOf, totalsOf}
 use Rattle.tables.specs.Sound.{At, Occupied}
+use Rattle.tables.specs.Tables.{Tables, Long, tables, recordAt, shelfOf}
+use Rattle.tables.specs.Tally.{policyIn, stampOf, totalsOf}
 use Rattle.tables.specs.declared.tally.Tally.{Tally}
-use Rattle.tables.proofs.Shelves.{shelf-change, slot-kept}
+use Rattle.tables.proofs.Lengths.{tables-eq}
+use Rattle.tables.proofs.Shelves.{slot-kept}
+use Rattle.shelving.specs.Hitting.{Hittable, HitDone}
 use Rattle.shelving.specs.Live.{Live}
-use Rattle.shelving.specs.Hitting.{freqAfter, Hittable, HitDone}
 use Rattle.shelving.proofs.Links.{SameAt, at-file, at-occupied}
 use Rattle.shelving.proofs.Lives.{live-same, stack-same}
+use Rattle.counting.specs.Counting.{passTally}
+use Rattle.admitting.specs.Admitting.{Admissible, admits}
 use Rattle.admitting.specs.Deciding.{Met, Meetable, meets, beyondOf}
+use Rattle.admitting.specs.declared.untold.Untold.{Untold}
 use Rattle.admitting.proofs.Beyond.{drop-same}
-use Rattle.admitting.proofs.Tallies.{plus-zero, hit-totals, hit-kept, tallied-after}
+use Rattle.admitting.proofs.Putting.{keptAt, Put, put}
+use Rattle.admitting.proofs.Tallies.{hit-totals, hit-kept, tallied-after}
 use Rattle.admitting.proofs.Meetings as meetings
+
+-- ---- a file that is kept: its record is set anew, and everything else stays
 
 module _ {a : Tally} {q : Request} {t : Tables} {entry free events : List ℕ} {at : ℕ} (h : Meetable a q t entry free events at) (in-store : getD (t .place) (q .file) 0 ≡ noPlace → ⊥) where
   abbrev s : Settings
@@ -84,7 +96,7 @@ module _ {a : Tally} {q : Request} {t : Tables} {entry free events : List ℕ} {
         valued = fine .valued;
         few = omega (arith, sum-at (λ r. r .freq) shelf (q .file) old slot-old, meetings.sound h .freqs, h .few);
         fits = z .keys (q .file) new (getD-set-same shelf (q .file) (kept new) none (meetings.slot-in h));
-        holding = record { whole = meetings.live h .whole; inside = held .0 };
+        holding = record { whole = meetings.live (h .running) .whole; inside = held .0 };
         countable = record { few = h .few; agreed = h .running .sound .agreed; valued = fine .valued };
       }
 
@@ -96,77 +108,35 @@ module _ {a : Tally} {q : Request} {t : Tables} {entry free events : List ℕ} {
     abbrev u : Tables
     u = tables (t .place) (t .file) (t .size) (t .cost) freq′ key′ stamp′ queue′
 
-    keys : key′ ≡ set (t .key) p (new .key)
-    keys = d .rekeyed .new-keys ∙ ap (λ (x : ℕ). set (t .key) x (new .key)) (held .1)
+    -- the record of the file is put anew where it stands
+    lent : u ≡ keptAt p (q .file) new t queue′
+    lent =
+        tables-eq (sym (set-getD (t .place) (q .file) 0)) (sym (set-getD (t .file) p 0) ∙ ap (set (t .file) p) (at-p .file)) (sym (set-getD (t .size) p 0))
+        (sym (set-getD (t .cost) p 0)) (d .freqs) (d .rekeyed .new-keys ∙ ap (λ (x : ℕ). set (t .key) x (new .key)) (held .1))
+        (d .rekeyed .new-stamps ∙ ap (λ (x : ℕ). set (t .stamp) x (stampOf a)) (held .1)) refl
 
-    stamps : stamp′ ≡ set (t .stamp) p (stampOf a)
-    stamps = d .rekeyed .new-stamps ∙ ap (λ (x : ℕ). set (t .stamp) x (stampOf a)) (held .1)
+    anew : Put s p (q .file) new t queue′
+    anew = put s p (q .file) new t queue′ (meetings.live (h .running) .places) (h .running .long) (at-p .inside) (h .known)
 
-    -- every other record is as it was
-    other : (k : ℕ) → (k ≡ p → ⊥) → SameAt t u k
-    other k ne =
-        record {
-          file = refl;
-          size = refl;
-          cost = refl;
-          freq = ap (λ (l : List ℕ). getD l k 0) (d .freqs) ∙ getD-set-other (t .freq) _ k _ 0 ne;
-          key = ap (λ (l : List ℕ). getD l k 0) keys ∙ getD-set-other (t .key) _ k _ 0 ne;
-          stamp = ap (λ (l : List ℕ). getD l k 0) stamps ∙ getD-set-other (t .stamp) _ k _ 0 ne;
-        }
-
-    free-other : (k : ℕ) → (Occupied s t k → ⊥) → SameAt t u k
-    free-other k un = other k (λ e. un (subst (Occupied s t) (sym e) occupied))
-
-    here : recordAt u p ≡ new
-    here =
-        let l = h .running .long in
-        let f : getD freq′ p 0 ≡ new .freq = ap (λ (x : List ℕ). getD x p 0) (d .freqs) ∙ getD-set-same (t .freq) _ _ 0 (hittable .counted) in
-        let k : getD key′ p 0 ≡ new .key = ap (λ (x : List ℕ). getD x p 0) keys ∙ getD-set-same (t .key) _ _ 0 (omega (arith, at-p .inside, l .key)) in
-        let w : getD stamp′ p 0 ≡ stampOf a = ap (λ (x : List ℕ). getD x p 0) stamps ∙ getD-set-same (t .stamp) _ _ 0 (omega (arith, at-p .inside, l .stamp)) in
-        λ i. record { size = old .size; cost = old .cost; freq = f i; key = k i; stamp = w i }
+    other : (k : ℕ) → (Occupied s t k → ⊥) → SameAt t u k
+    other k un = subst (λ (w : Tables). SameAt t w k) (sym lent) (anew .but .records k (λ e. un (subst (Occupied s t) (sym e) occupied)))
 
     hit-shelf : shelfOf (a .settings .catalogue .0) u ≡ set shelf (q .file) (kept new)
     hit-shelf =
-        shelf-change (a .settings .catalogue .0) t u (q .file) p p (h .known) (h .running .long .place) (sym (set-getD (t .place) (q .file) 0))
-        (λ k ne.
-        let x : SameAt t u k = other k ne in
-        λ i. record { size = x .size i; cost = x .cost i; freq = x .freq i; key = x .key i; stamp = x .stamp i })
+        ap (shelfOf (a .settings .catalogue .0)) lent
+        ∙ anew .shelf
         (λ j c ne e. ⊎-elim (λ z. in-store (sym e ∙ z)) (λ x. ne (at-file s t j (q .file) p (subst (At s t j) e x) at-p)) (h .running .sound .linked .out j c))
-        ∙ ap (set shelf (q .file)) (slot-kept u p in-store ∙ ap kept here)
 
     hit-live : Live s n n u entry′
     hit-live =
-        let l = h .running .long in
-        live-same s n n t u entry entry′ (meetings.live h) refl refl free-other n (omega arith)
-        (record {
-          place = l .place;
-          file = l .file;
-          size = l .size;
-          cost = l .cost;
-          freq = omega (arith, l .freq, ap (λ (x : List ℕ). length x) (d .freqs), length-set (t .freq) p (freqAfter a (t .freq) p));
-          key = omega (arith, l .key, ap (λ (x : List ℕ). length x) keys, length-set (t .key) p (new .key));
-          stamp = omega (arith, l .stamp, ap (λ (x : List ℕ). length x) stamps, length-set (t .stamp) p (stampOf a));
-          queue = omega (arith, l .queue, d .rekeyed .apart .long);
-        })
-        (d .rekeyed .apart .entries) (d .rekeyed .held) (d .rekeyed .apart .past) (d .rekeyed .whole)
+        let r = d .rekeyed in
+        live-same s n n t u entry entry′ (meetings.live (h .running)) refl refl other n (omega arith)
+        (subst (Long (s .places .0) (s .catalogue .0)) (sym lent) (anew .long (r .apart .long))) (r .apart .entries) (r .held) (r .apart .past) (r .whole)
 
     hit-past : beyondOf s u ≡ beyondOf s t
     hit-past =
-        let m : ℕ = s .places .0 in
-        let f : drop m freq′ ≡ drop m (t .freq) = ap (drop m) (d .freqs) ∙ drop-set-lt m (t .freq) _ _ (at-p .inside) in
-        let k : drop m key′ ≡ drop m (t .key) = ap (drop m) keys ∙ drop-set-lt m (t .key) _ _ (at-p .inside) in
-        let w : drop m stamp′ ≡ drop m (t .stamp) = ap (drop m) stamps ∙ drop-set-lt m (t .stamp) _ _ (at-p .inside) in
-        let z : drop m queue′ ≡ drop m (t .queue) = drop-same (t .queue) queue′ n m (d .rekeyed .apart .long) (meetings.live h .few) (d .rekeyed .apart .past) in
-        λ i. record {
-          place = drop (s .catalogue .0) (t .place);
-          file = drop m (t .file);
-          size = drop m (t .size);
-          cost = drop m (t .cost);
-          freq = f i;
-          key = k i;
-          stamp = w i;
-          queue = z i;
-        }
+        let r = d .rekeyed in
+        ap (beyondOf s) lent ∙ anew .past (drop-same (t .queue) queue′ n (s .places .0) (r .apart .long) (meetings.live (h .running) .few) (r .apart .past))
 
     strikes : Met a t events at (meets a q t) (record { outcome = Hit; tally = b; due = at }) u entry′ free events
     strikes =
@@ -180,12 +150,34 @@ module _ {a : Tally} {q : Request} {t : Tables} {entry free events : List ℕ} {
           shelf = hit-shelf;
           few = omega arith;
           written = refl;
-          count = plus-zero at;
+          count = omega arith;
           live = hit-live;
-          stack = stack-same s n n t u entry entry′ (meetings.live h) refl refl free-other free (meetings.stack h);
+          stack = stack-same s n n t u entry entry′ (meetings.live (h .running)) refl refl other free (meetings.stack (h .running));
           past = hit-past;
         }))
 
-  pub strikes-at : {k : ℕ} → k ≡ p → {freq′ key′ stamp′ queue′ entry′ : List ℕ} {b : Tally} → HitDone a k (t .size) (t .cost) (t .freq) (t .key) (t .stamp) (t .queue) entry freq′ key′ stamp′ queue′ entry′ b
+  pub strikes-at : {k : ℕ} → k ≡ p → {freq′ key′ stamp′ queue′ entry′ : List ℕ} {b : Tally}
+      → HitDone a k (t .size) (t .cost) (t .freq) (t .key) (t .stamp) (t .queue) entry freq′ key′ stamp′ queue′ entry′ b
       → Met a t events at (meets a q t) (record { outcome = Hit; tally = b; due = at }) (tables (t .place) (t .file) (t .size) (t .cost) freq′ key′ stamp′ queue′) entry′ free events
   strikes-at e d = strikes (rw e at d)
+
+-- ---- a file that is not kept, by the test of its size
+
+module _ {a : Tally} {q : Request} {t : Tables} {entry free events : List ℕ} {at : ℕ} (h : Meetable a q t entry free events at) (out : getD (t .place) (q .file) 0 ≡ noPlace)
+    {fits : Bool} (e : fits ≡ leb (q .size) (a .settings .capacity .0)) where
+  pub bigs : not fits ≡ true → {b : Tally} → b ≡ passTally a (q .size) (q .cost)
+      → Met a t events at (meets a q t) (record { outcome = Passed TooBig; tally = b; due = at }) t entry free events
+  bigs above {b} tl =
+      let big = lt-ltb (a .settings .capacity .0) (q .size) (leb-false _ _ (sym e ∙ not-true fits above)) in
+      let x : meets a q t ≡ meetings.passed h TooBig = rw (meetings.slot-free h out) (pick-true _ _ big) in
+      subst (λ (y : Served State). Met a t events at y (record { outcome = Passed TooBig; tally = b; due = at }) t entry free events) (sym x)
+      (meetings.passes h TooBig (t .queue) entry (meetings.live (h .running)) refl b tl)
+
+  module _ (below : not fits ≡ false) where
+    pub admissible : Admissible a q t entry free events at
+    admissible = record { meetable = h; out = out; small = leb-true _ _ (sym e ∙ not-false fits below) }
+
+    pub admitted : {r : Untold} {u : Tables} {entry′ free′ events′ : List ℕ} → Met a t events at (admits a q t) r u entry′ free′ events′
+        → Met a t events at (meets a q t) r u entry′ free′ events′
+    admitted {r} {u} {entry′} {free′} {events′} m =
+        subst (λ (y : Served State). Met a t events at y r u entry′ free′ events′) (sym (meetings.small-as h out (admissible .small))) m
