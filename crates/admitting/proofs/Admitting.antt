@@ -168,9 +168,9 @@ module _ {a : Tally} {q : Request} {t : Tables} {entry free events : List ℕ} {
           }
 
       -- nothing but the queue's arrangement has changed
-      pub lows : (queue₂ entry₂ : List ℕ) (b : Tally) → Again queue₁ entry₁ queue₂ entry₂ (t .key) (t .stamp) (a .«files_kept») → b ≡ passTally a (q .size) (q .cost)
+      pub lows : {queue₂ entry₂ : List ℕ} {b : Tally} → Again queue₁ entry₁ queue₂ entry₂ (t .key) (t .stamp) (a .«files_kept») → b ≡ passTally a (q .size) (q .cost)
           → Met a t events at (admits a q t) (record { outcome = Passed LowKey; tally = b; due = at }) (withQueue queue₂ t) entry₂ free events
-      lows queue₂ entry₂ b g tl =
+      lows {queue₂} {entry₂} g tl =
           let u : Tables = withQueue queue₂ t in
           let v : Live (a .settings) (a .«files_kept») (r .left) t₁ entry₁ = lowly .live in
           let l = v .long in
@@ -190,8 +190,7 @@ module _ {a : Tally} {q : Request} {t : Tables} {entry free events : List ℕ} {
           (g .entry-long) (g .held) (g .past) (g .whole) in
           let past : drop (a .settings .places .0) queue₂ ≡ drop (a .settings .places .0) (t .queue) =
           drop-same (t .queue) queue₂ (a .«files_kept») (a .settings .places .0) (g .long ∙ y .long) (live .few) (λ i b. g .past i b ∙ popped-past (y .popped) .1 i b) in
-          subst (λ (x : Served State). Met a t events at x (record { outcome = Passed LowKey; tally = b; due = at }) u entry₂ free events) (sym (low-as (lowly .low)))
-          (meetings.passes (h .meetable) LowKey queue₂ entry₂ settled past b tl)
+          meetings.passes (h .meetable) LowKey (low-as (lowly .low)) queue₂ entry₂ settled past tl
 
     -- ---- where there is room: it is evicted
 
@@ -244,16 +243,16 @@ module _ {a : Tally} {q : Request} {t : Tables} {entry free events : List ℕ} {
                 };
             bytes = ap bytes (sym left-as) ∙ stays .weight;
             files = ap files (sym left-as) ∙ stays .count;
-            untold = h .meetable .room;
+            space = h .meetable .room;
           }
 
       -- and what entering leaves is the admission
       pub admitted : {w : Untold} {u : Tables} {entry′ free′ events′ : List ℕ} → Met a t₁ events at (enters a q r t₁) w u entry′ free′ events′
           → Met a t events at (admits a q t) w u entry′ free′ events′
-      admitted {w} {u} {entry′} {free′} {events′} d =
+      admitted d =
           let past : beyondOf (a .settings) t₁ ≡ beyondOf (a .settings) t =
           beyond-queue (a .settings) t queue₁ (drop-same (t .queue) queue₁ (a .«files_kept») (a .settings .places .0) (y .long) (live .few) (popped-past (y .popped) .1)) in
-          subst (λ (x : Served State). Met a t events at x w u entry′ free′ events′) (sym enters-as)
+          meetings.met-as enters-as refl
           (record {
             outcome = d .outcome;
             tally = d .tally;

@@ -38,6 +38,7 @@ use Rattle.admitting.specs.Deciding.{beyondOf, Met}
 use Rattle.admitting.specs.Admitting.{goneIn, leftIn, Enterable, enters}
 use Rattle.admitting.proofs.Beyond.{drop-same, beyond-all}
 use Rattle.admitting.proofs.Putting.{keptAt, put}
+use Rattle.admitting.proofs.Meetings.{met-as}
 use Rattle.admitting.proofs.Tallies.{admit-totals, admit-kept, tallied-after}
 
 -- ---- what the steps ask
@@ -225,12 +226,12 @@ module _ {a : Tally} {q : Request} {room : Room} {t : Tables} {entry free events
         (ap (λ (g : ℕ). admitTotals (totalsOf a) (q .size) (q .cost) g) (sym gone) ∙ admit-totals (totalsOf a) (q .size) (q .cost) (goneIn a room t))
 
     -- the tables with the newcomer, and the evictions told
-    pub entered : (u : Tables) (entry′ events′ : List ℕ) (b : Tally)
+    pub entered : (u : Tables) {entry′ events′ : List ℕ} {b : Tally}
         → Keeps (room .left) p (q .file) k (seven (t₁ .place) (t₁ .file) (t₁ .size) (t₁ .cost) (t₁ .freq) (t₁ .key) (t₁ .stamp))
         (seven (u .place) (u .file) (u .size) (u .cost) (u .freq) (u .key) (u .stamp)) (t₁ .queue) entry (u .queue) entry′
         → Told (a .«files_kept») (room .left) (t .file) (t .queue) events at events′ → b ≡ admittedTally a (q .size) (q .cost) room
         → Met a t events at (enters a q room t) (record { outcome = Admitted; tally = b; due = at + goneFor a room }) u entry′ free₁ events′
-    entered u entry′ events′ b ks told e =
+    entered u {entry′} ks told e =
         let m : ℕ = room .left in
         let new : Kept = newRecord a (q .size) (q .cost) room in
         let lent : u ≡ keptAt p (q .file) new t₁ (u .queue) = ap (withQueue (u .queue)) (ks .lent) ∙ ap (λ (w : Kept). keptAt p (q .file) w t₁ (u .queue)) is-k in
@@ -240,7 +241,7 @@ module _ {a : Tally} {q : Request} {room : Room} {t : Tables} {entry free events
         subst (λ (w : Tables). Topped s m (q .file) new t₁ free₁ w entry′) (sym lent)
         (topped (x .live) (x .stack) (h .one) (q .file) (h .known) (x .out) new p on-top (u .queue) entry′ ins) in
         let gone : length (goneIn a room t) ≡ goneFor a room = length-behind t (a .«files_kept») (goneFor a room) in
-        subst (λ (c : Tally). Met a t events at (enters a q room t) (record { outcome = Admitted; tally = c; due = at + goneFor a room }) u entry′ free₁ events′) (sym e)
+        met-as refl e
         (record {
           outcome = refl;
           tally = entered-tally;

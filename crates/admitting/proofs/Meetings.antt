@@ -1,5 +1,5 @@
 -- Between requests, and a request with its cost in force: what is known before it is decided, and a pass, which changes nothing but the tally. Assumes nothing.
-use mathlib.Core.Path.{_≡_, refl, sym, ap, _∙_, subst}
+use mathlib.Core.Path.{_≡_, refl, sym, ap, _∙_, subst, subst₂}
 use mathlib.Core.List.{List, []}
 use Prim.Native.Nat.{ℕ, suc, _≤_, _<_}
 use native.Mathlib.Omega.{arith}
@@ -17,6 +17,7 @@ use Rattle.method.specs.Method.{Policy, State, Served, served, missed, meet, st
 use Rattle.method.specs.Method as method
 use Rattle.method.specs.Promise.{SoundAt, Small}
 use Rattle.method.specs.declared.outcome.Pass.{Pass}
+use Rattle.method.specs.declared.outcome.Outcome.{Outcome}
 use Rattle.method.specs.declared.outcome.Outcome.the-variants.{Passed}
 use Rattle.method.proofs.Sound.{step-sound}
 use Rattle.method.proofs.Demand.{sound-small}
@@ -85,6 +86,12 @@ module _ {a : Tally} {t : Tables} {entry free : List ℕ} (h : Running a t entry
 
 -- ---- a request
 
+-- what is met stays so at equal values
+pub met-as : {a b c : Tally} {t u : Tables} {events entry′ free′ events′ : List ℕ} {at due : ℕ} {x y : Served State} {o : Outcome} → y ≡ x → b ≡ c
+    → Met a t events at x (record { outcome = o; tally = c; due = due }) u entry′ free′ events′ → Met a t events at y (record { outcome = o; tally = b; due = due }) u entry′ free′ events′
+met-as {a} {t = t} {u} {events} {entry′} {free′} {events′} {at} {due} {o = o} e f m =
+    subst₂ (λ y b. Met a t events at y (record { outcome = o; tally = b; due = due }) u entry′ free′ events′) (sym e) (sym f) m
+
 module _ {a : Tally} {q : Request} {t : Tables} {entry free events : List ℕ} {at : ℕ} (h : Meetable a q t entry free events at) where
   abbrev s : Settings
   s = a .settings
@@ -144,11 +151,11 @@ module _ {a : Tally} {q : Request} {t : Tables} {entry free events : List ℕ} {
   abbrev pub passed : Pass → Served State
   passed w = served (a .inflation .0) shelf (stampOf a) (missed q [] (Passed w))
 
-  pub passes : (w : Pass) (queue′ entry′ : List ℕ) → Live s (a .«files_kept») (a .«files_kept») (withQueue queue′ t) entry′
-      → drop (s .places .0) queue′ ≡ drop (s .places .0) (t .queue) → (b : Tally) → b ≡ passTally a (q .size) (q .cost)
-      → Met a t events at (passed w) (record { outcome = Passed w; tally = b; due = at }) (withQueue queue′ t) entry′ free events
-  passes w queue′ entry′ l past b e =
-      subst (λ (c : Tally). Met a t events at (passed w) (record { outcome = Passed w; tally = c; due = at }) (withQueue queue′ t) entry′ free events) (sym e)
+  pub passes : (w : Pass) {x : Served State} → x ≡ passed w → (queue′ entry′ : List ℕ) → Live s (a .«files_kept») (a .«files_kept») (withQueue queue′ t) entry′
+      → drop (s .places .0) queue′ ≡ drop (s .places .0) (t .queue) → {b : Tally} → b ≡ passTally a (q .size) (q .cost)
+      → Met a t events at x (record { outcome = Passed w; tally = b; due = at }) (withQueue queue′ t) entry′ free events
+  passes w y queue′ entry′ l past e =
+      met-as y e
       (record {
         outcome = refl;
         tally = tallied-after a (passed w) (h .running .sound .bytes) (h .running .sound .files) (pass-totals (totalsOf a) (q .size) (q .cost) w);

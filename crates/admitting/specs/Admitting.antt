@@ -49,7 +49,7 @@ pub record Enterable (a : Tally) (q : Request) (room : Room) (t : Tables) (entry
   pub admits : Admits a (q .size) (q .cost) room
   pub bytes : bytes (leftIn a room t) ≡ room .bytes .0
   pub files : files (leftIn a room t) ≡ room .left
-  pub untold : at + a .«files_kept» ≤ length events
+  pub space : at + a .«files_kept» ≤ length events
 
 -- document 01, "The run": they go, and it is kept beside what is left
 abbrev pub enters : Tally → Request → Room → Tables → Served State

@@ -35,16 +35,17 @@ pub record Running (a : Tally) (t : Tables) (entry free : List ℕ) : Type 0 whe
 abbrev pub beyondOf : Settings → Tables → Tables
 beyondOf s t = beyond (s .places .0) (s .catalogue .0) t
 
--- document 01, "The run": x is what the method gives; the outcome o, the tally b and what is left are the same, and the events es stand from `at` to `end`.
--- The index `entry` and the stack `free` are the call's own lists, of no caller's memory: Live and Stack say all that is ever read of them, the index at the places
--- that the queue holds and the stack up to its height. What their other entries hold is open; like every lent list they stay as long as they were.
+-- document 01, "The run": x is what the method gives; the outcome o, the tally b and what is left are the same, and the events es stand from `at` to `end`
 pub record Gives (a : Tally) (t : Tables) (events : List ℕ) (at : ℕ) (x : Served State) (es : List ℕ) (o : Outcome) (b : Tally) (end : ℕ) (u : Tables) (entry′ free′ events′ : List ℕ) : Type 0 where
   pub outcome : o ≡ x .reply .outcome
   pub tally : b ≡ after a x
   pub shelf : shelfOf (a .settings .catalogue .0) u ≡ x .state .shelf
+  -- no more files go than were kept
   pub few : length (x .reply .evicted) ≤ a .«files_kept»
   pub written : events′ ≡ sets events at es
   pub count : end ≡ at + length es
+  -- the index and the stack are the call's own, of no caller's memory: this is all that is ever read of them, the index at the places that the queue holds and the stack
+  -- up to its height; what their other entries hold is open, and like every lent list they stay as long as they were
   pub live : Live (a .settings) (b .«files_kept») (b .«files_kept») u entry′
   pub stack : Stack (a .settings) (b .«files_kept») u free′
   pub past : beyondOf (a .settings) u ≡ beyondOf (a .settings) t

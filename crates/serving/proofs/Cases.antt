@@ -27,7 +27,6 @@ use Rattle.tables.specs.declared.tally.Tally.{Tally}
 use Rattle.tables.proofs.Lengths.{tables-eq}
 use Rattle.tables.proofs.Shelves.{slot-kept}
 use Rattle.shelving.specs.Hitting.{Hittable, HitDone}
-use Rattle.shelving.specs.Live.{Live}
 use Rattle.shelving.proofs.Links.{SameAt, at-file, at-occupied}
 use Rattle.shelving.proofs.Lives.{live-same, stack-same}
 use Rattle.counting.specs.Counting.{passTally}
@@ -121,40 +120,28 @@ module _ {a : Tally} {q : Request} {t : Tables} {entry free events : List ℕ} {
     other : (k : ℕ) → (Occupied s t k → ⊥) → SameAt t u k
     other k un = subst (λ (w : Tables). SameAt t w k) (sym lent) (anew .but .records k (λ e. un (subst (Occupied s t) (sym e) occupied)))
 
-    hit-shelf : shelfOf (a .settings .catalogue .0) u ≡ set shelf (q .file) (kept new)
-    hit-shelf =
-        ap (shelfOf (a .settings .catalogue .0)) lent
-        ∙ anew .shelf
-        (λ j c ne e. ⊎-elim (λ z. in-store (sym e ∙ z)) (λ x. ne (at-file s t j (q .file) p (subst (At s t j) e x) at-p)) (h .running .sound .linked .out j c))
-
-    hit-live : Live s n n u entry′
-    hit-live =
-        let r = d .rekeyed in
-        live-same s n n t u entry entry′ (meetings.live (h .running)) refl refl other n (omega arith)
-        (subst (Long (s .places .0) (s .catalogue .0)) (sym lent) (anew .long (r .apart .long))) (r .apart .entries) (r .held) (r .apart .past) (r .whole)
-
-    hit-past : beyondOf s u ≡ beyondOf s t
-    hit-past =
-        let r = d .rekeyed in
-        ap (beyondOf s) lent ∙ anew .past (drop-same (t .queue) queue′ n (s .places .0) (r .apart .long) (meetings.live (h .running) .few) (r .apart .past))
-
     strikes : Met a t events at (meets a q t) (record { outcome = Hit; tally = b; due = at }) u entry′ free events
     strikes =
+        let r = d .rekeyed in
+        let l = meetings.live (h .running) in
         let sums = hit-kept shelf (q .file) old new slot-old refl (meetings.slot-in h) in
-        subst (λ (x : Served State). Met a t events at x (record { outcome = Hit; tally = b; due = at }) u entry′ free events) (sym hits-as)
-        (subst (λ (c : Tally). Met a t events at struck (record { outcome = Hit; tally = c; due = at }) u entry′ free events) (sym (d .tally))
+        let own : (j : ℕ) → j < s .catalogue .0 → (j ≡ q .file → ⊥) → getD (t .place) j 0 ≡ p → ⊥ =
+        λ j c ne e. ⊎-elim (λ z. in-store (sym e ∙ z)) (λ x. ne (at-file s t j (q .file) p (subst (At s t j) e x) at-p)) (h .running .sound .linked .out j c) in
+        meetings.met-as hits-as (d .tally)
         (record {
           outcome = refl;
           tally =
               tallied-after a struck (sums .0 ∙ h .running .sound .bytes) (sums .1 ∙ h .running .sound .files) (hit-totals (totalsOf a) (old .size) (old .cost));
-          shelf = hit-shelf;
+          shelf = ap (shelfOf (s .catalogue .0)) lent ∙ anew .shelf own;
           few = omega arith;
           written = refl;
           count = omega arith;
-          live = hit-live;
-          stack = stack-same s n n t u entry entry′ (meetings.live (h .running)) refl refl other free (meetings.stack (h .running));
-          past = hit-past;
-        }))
+          live =
+              live-same s n n t u entry entry′ l refl refl other n (omega arith) (subst (Long (s .places .0) (s .catalogue .0)) (sym lent) (anew .long (r .apart .long)))
+              (r .apart .entries) (r .held) (r .apart .past) (r .whole);
+          stack = stack-same s n n t u entry entry′ l refl refl other free (meetings.stack (h .running));
+          past = ap (beyondOf s) lent ∙ anew .past (drop-same (t .queue) queue′ n (s .places .0) (r .apart .long) (l .few) (r .apart .past));
+        })
 
   pub strikes-at : {k : ℕ} → k ≡ p → {freq′ key′ stamp′ queue′ entry′ : List ℕ} {b : Tally}
       → HitDone a k (t .size) (t .cost) (t .freq) (t .key) (t .stamp) (t .queue) entry freq′ key′ stamp′ queue′ entry′ b
@@ -167,11 +154,10 @@ module _ {a : Tally} {q : Request} {t : Tables} {entry free events : List ℕ} {
     {fits : Bool} (e : fits ≡ leb (q .size) (a .settings .capacity .0)) where
   pub bigs : not fits ≡ true → {b : Tally} → b ≡ passTally a (q .size) (q .cost)
       → Met a t events at (meets a q t) (record { outcome = Passed TooBig; tally = b; due = at }) t entry free events
-  bigs above {b} tl =
+  bigs above tl =
       let big = lt-ltb (a .settings .capacity .0) (q .size) (leb-false _ _ (sym e ∙ not-true fits above)) in
       let x : meets a q t ≡ meetings.passed h TooBig = rw (meetings.slot-free h out) (pick-true _ _ big) in
-      subst (λ (y : Served State). Met a t events at y (record { outcome = Passed TooBig; tally = b; due = at }) t entry free events) (sym x)
-      (meetings.passes h TooBig (t .queue) entry (meetings.live (h .running)) refl b tl)
+      meetings.passes h TooBig x (t .queue) entry (meetings.live (h .running)) refl tl
 
   module _ (below : not fits ≡ false) where
     pub admissible : Admissible a q t entry free events at
@@ -179,5 +165,4 @@ module _ {a : Tally} {q : Request} {t : Tables} {entry free events : List ℕ} {
 
     pub admitted : {r : Untold} {u : Tables} {entry′ free′ events′ : List ℕ} → Met a t events at (admits a q t) r u entry′ free′ events′
         → Met a t events at (meets a q t) r u entry′ free′ events′
-    admitted {r} {u} {entry′} {free′} {events′} m =
-        subst (λ (y : Served State). Met a t events at y r u entry′ free′ events′) (sym (meetings.small-as h out (admissible .small))) m
+    admitted m = meetings.met-as (meetings.small-as h out (admissible .small)) refl m

@@ -58,18 +58,18 @@ own-entry {events = events} {at} {x} q m =
 module _ {a : Tally} {q : Request} {t : Tables} {entry free events : List ℕ} {at : ℕ} (h : Servable a q t entry free events at)
     {cost : ℕ} (paid : cost ≡ inForce (q .size) (q .cost)) where
   -- the request with its cost in force
-  abbrev due : Request
-  due = asked (q .file) (q .size) cost
+  abbrev priced : Request
+  priced = asked (q .file) (q .size) cost
 
-  pub meetable : Meetable a due t entry free events at
+  pub meetable : Meetable a priced t entry free events at
   meetable = record { running = h .running; few = h .few; valued = rw paid (resolved-valued (a .settings .catalogue .0) q (h .ranged)); known = h .ranged .file; room = omega (arith, h .room) }
 
-  module _ {r : Untold} {u : Tables} {entry′ free′ events′ : List ℕ} (m : Met a t events at (meets a due t) r u entry′ free′ events′) where
+  module _ {r : Untold} {u : Tables} {entry′ free′ events′ : List ℕ} (m : Met a t events at (meets a priced t) r u entry′ free′ events′) where
     -- there is room for its own entry
     pub own-room : r .due + 1 ≤ length events
-    own-room = omega (arith, h .room, m .count, m .few, length-map (meets a due t .reply .evicted) evict)
+    own-room = omega (arith, h .room, m .count, m .few, length-map (meets a priced t .reply .evicted) evict)
 
-    meets-step : meets a due t ≡ step (policyIn (a .settings)) (storeOf (a .settings)) (stateOf a t) q
+    meets-step : meets a priced t ≡ step (policyIn (a .settings)) (storeOf (a .settings)) (stateOf a t) q
     unfolding step
     meets-step = ap (λ (w : ℕ). meets a (asked (q .file) (q .size) w) t) paid
 
@@ -77,5 +77,5 @@ module _ {a : Tally} {q : Request} {t : Tables} {entry free events : List ℕ} {
     stepped {v} e =
         let y : Serves a q t events at (step (policyIn (a .settings)) (storeOf (a .settings)) (stateOf a t) q) (told r) u entry′ free′ (set events′ (r .due) v) =
         subst (λ (x : Served State). Serves a q t events at x (told r) u entry′ free′ (set events′ (r .due) v)) meets-step
-        (subst (λ (w : ℕ). Serves a q t events at (meets a due t) (told r) u entry′ free′ (set events′ (r .due) w)) (sym e) (own-entry q m)) in
+        (subst (λ (w : ℕ). Serves a q t events at (meets a priced t) (told r) u entry′ free′ (set events′ (r .due) w)) (sym e) (own-entry q m)) in
         record { serves = y; running = running-next a t entry free (h .running) q (h .ranged) (h .few) y }
