@@ -1,5 +1,4 @@
 // One request: a hit, a pass, or an admission by either policy.
-mod admit;
 mod request;
 mod step;
 

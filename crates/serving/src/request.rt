@@ -1,6 +1,7 @@
-// One request: told by the file number alone whether it is a hit.
-use crate::admit::admit;
+// One request: decided by the file number alone, then told in the event list.
 use crate::step::Step;
+use admitting::Untold;
+use admitting::admit;
 use amounts::Bytes;
 use amounts::Cost;
 use amounts::Places;
@@ -14,9 +15,67 @@ use shelving::hit;
 use shelving::wide16;
 use tables::Tally;
 ghost use Rattle.tables.specs.Tables.{tables};
-ghost use Rattle.serving.specs.Serving.{asked, Servable, Stepped};
+ghost use Rattle.admitting.specs.Deciding.{asked, Meetable, meets, Met};
+ghost use Rattle.serving.specs.Serving.{Servable, Stepped};
 
-// Serves a request for file f, of size z and cost w, and writes its events from `at` on.
+// A hit, a pass or an admission, w being the cost in force: of the events only the evictions are written.
+fn meet(
+    a: Tally,
+    f: usize,
+    z: Bytes,
+    w: Cost,
+    place: &mut [u16],
+    file: &mut [u16],
+    size: &mut [u32],
+    cost: &mut [u16],
+    freq: &mut [u32],
+    key: &mut [u64],
+    stamp: &mut [u64],
+    queue: &mut [u16],
+    entry: &mut [u16],
+    free: &mut [u16],
+    events: &mut [u32],
+    at: usize,
+) -> Untold
+    requires { ⌜ Meetable a (asked f (z .0) (w .0)) (tables (now place) (now file) (now size) (now cost) (now freq) (now key) (now stamp) (now queue)) (now entry) (now free) (now events) at ⌝ }
+    ensures { λ r. ⌜ Met a (tables (now (place .entry)) (now (file .entry)) (now (size .entry)) (now (cost .entry)) (now (freq .entry)) (now (key .entry)) (now (stamp .entry)) (now (queue .entry))) (now (events .entry)) at (meets a (asked f (z .0) (w .0)) (tables (now (place .entry)) (now (file .entry)) (now (size .entry)) (now (cost .entry)) (now (freq .entry)) (now (key .entry)) (now (stamp .entry)) (now (queue .entry)))) r (tables (now (place .exit)) (now (file .exit)) (now (size .exit)) (now (cost .exit)) (now (freq .exit)) (now (key .exit)) (now (stamp .exit)) (now (queue .exit))) (now (entry .exit)) (now (free .exit)) (now (events .exit)) ⌝ }
+{
+    let home = place[f];
+    if home != Places::NONE {
+        return Untold {
+            outcome: Outcome::Hit,
+            tally: hit(a, wide16(home), size, cost, freq, key, stamp, queue, entry),
+            due: at,
+        };
+    }
+    if !z.at_most(a.settings.capacity) {
+        return Untold {
+            outcome: Outcome::Passed(Pass::TooBig),
+            tally: with_pass(a, z, w),
+            due: at,
+        };
+    }
+    admit(
+        a,
+        f,
+        z,
+        w,
+        place,
+        file,
+        size,
+        cost,
+        freq,
+        key,
+        stamp,
+        queue,
+        entry,
+        free,
+        events,
+        at,
+    )
+}
+
+// Serves a request for file f, of size z and cost w, and writes its events from `at` on: its own entry is that of its outcome.
 pub fn serve(
     a: Tally,
     f: usize,
@@ -38,30 +97,11 @@ pub fn serve(
     requires { ⌜ Servable a (asked f (z .0) (w .0)) (tables (now place) (now file) (now size) (now cost) (now freq) (now key) (now stamp) (now queue)) (now entry) (now free) (now events) at ⌝ }
     ensures { λ r. ⌜ Stepped a (asked f (z .0) (w .0)) (tables (now (place .entry)) (now (file .entry)) (now (size .entry)) (now (cost .entry)) (now (freq .entry)) (now (key .entry)) (now (stamp .entry)) (now (queue .entry))) (now (events .entry)) at r (tables (now (place .exit)) (now (file .exit)) (now (size .exit)) (now (cost .exit)) (now (freq .exit)) (now (key .exit)) (now (stamp .exit)) (now (queue .exit))) (now (entry .exit)) (now (free .exit)) (now (events .exit)) ⌝ }
 {
-    let paid = w.in_force(z);
-    let home = place[f];
-    if home != Places::NONE {
-        let tally = hit(a, wide16(home), size, cost, freq, key, stamp, queue, entry);
-        events[at] = event(HIT, f);
-        return Step {
-            outcome: Outcome::Hit,
-            tally,
-            events: at + 1,
-        };
-    }
-    if a.settings.capacity.0 < z.0 {
-        events[at] = event(BIG, f);
-        return Step {
-            outcome: Outcome::Passed(Pass::TooBig),
-            tally: with_pass(a, z, paid),
-            events: at + 1,
-        };
-    }
-    admit(
+    let met = meet(
         a,
         f,
         z,
-        paid,
+        w.in_force(z),
         place,
         file,
         size,
@@ -74,5 +114,15 @@ pub fn serve(
         free,
         events,
         at,
-    )
+    );
+    let outcome = met.outcome;
+    let tally = met.tally;
+    let due = met.due;
+    events[due] = event(outcome.kind(), f);
+    let next = due + 1;
+    Step {
+        outcome,
+        tally,
+        events: next,
+    }
 }

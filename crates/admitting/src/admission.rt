@@ -1,13 +1,10 @@
 // The admission of a newcomer, by either policy.
-use crate::step::Step;
+use crate::untold::Untold;
 use amounts::Bytes;
 use amounts::Cost;
 use counting::with_pass;
-use method::ADMIT;
-use method::LOW;
 use method::Outcome;
 use method::Pass;
-use method::event;
 use newcomer::admitted;
 use newcomer::limit;
 use newcomer::newcomer;
@@ -20,7 +17,8 @@ use shelving::tell;
 use shelving::wide16;
 use tables::Tally;
 ghost use Rattle.tables.specs.Tables.{tables};
-ghost use Rattle.serving.specs.Serving.{asked, Enterable, Entered, Admissible, admits, Serves};
+ghost use Rattle.admitting.specs.Deciding.{asked, Met};
+ghost use Rattle.admitting.specs.Admitting.{Enterable, enters, Admissible, admits};
 
 // The newcomer enters where room was made: what was set aside is evicted in order, and it takes a free place.
 fn enter(
@@ -41,12 +39,13 @@ fn enter(
     free: &mut [u16],
     events: &mut [u32],
     at: usize,
-) -> Step
+) -> Untold
     requires { ⌜ Enterable a (asked f (z .0) (w .0)) room (tables (now place) (now file) (now size) (now cost) (now freq) (now key) (now stamp) (now queue)) (now entry) (now free) (now events) at ⌝ }
-    ensures { λ r. ⌜ Entered a (asked f (z .0) (w .0)) room (tables (now (place .entry)) (now (file .entry)) (now (size .entry)) (now (cost .entry)) (now (freq .entry)) (now (key .entry)) (now (stamp .entry)) (now (queue .entry))) (now (events .entry)) at r (tables (now (place .exit)) (now (file .exit)) (now (size .exit)) (now (cost .exit)) (now (freq .exit)) (now (key .exit)) (now (stamp .exit)) (now (queue .exit))) (now (entry .exit)) (now (free .exit)) (now (events .exit)) ⌝ }
+    ensures { λ r. ⌜ Met a (tables (now (place .entry)) (now (file .entry)) (now (size .entry)) (now (cost .entry)) (now (freq .entry)) (now (key .entry)) (now (stamp .entry)) (now (queue .entry))) (now (events .entry)) at (enters a (asked f (z .0) (w .0)) room (tables (now (place .entry)) (now (file .entry)) (now (size .entry)) (now (cost .entry)) (now (freq .entry)) (now (key .entry)) (now (stamp .entry)) (now (queue .entry)))) r (tables (now (place .exit)) (now (file .exit)) (now (size .exit)) (now (cost .exit)) (now (freq .exit)) (now (key .exit)) (now (stamp .exit)) (now (queue .exit))) (now (entry .exit)) (now (free .exit)) (now (events .exit)) ⌝ }
 {
     let n = a.files_kept as usize;
     let left = room.left;
+    let due = at + (n - left);
     tell(n, left, file, queue, events, at);
     drop_behind(
         a.settings,
@@ -62,7 +61,7 @@ fn enter(
         queue,
         free,
     );
-    let top = a.settings.places.0 as usize - left - 1;
+    let top = a.settings.places.count() - left - 1;
     let p = wide16(free[top]);
     let k = newcomer(a, z, w, room);
     keep(
@@ -80,17 +79,15 @@ fn enter(
         queue,
         entry,
     );
-    let end = at + (n - left);
-    events[end] = event(ADMIT, f);
-    Step {
+    Untold {
         outcome: Outcome::Admitted,
         tally: admitted(a, z, w, room),
-        events: end + 1,
+        due,
     }
 }
 
 // The admission of a newcomer that is not too big: low where it would be taken itself, and then nothing is evicted.
-pub(crate) fn admit(
+pub fn admit(
     a: Tally,
     f: usize,
     z: Bytes,
@@ -107,9 +104,9 @@ pub(crate) fn admit(
     free: &mut [u16],
     events: &mut [u32],
     at: usize,
-) -> Step
+) -> Untold
     requires { ⌜ Admissible a (asked f (z .0) (w .0)) (tables (now place) (now file) (now size) (now cost) (now freq) (now key) (now stamp) (now queue)) (now entry) (now free) (now events) at ⌝ }
-    ensures { λ r. ⌜ Serves a (asked f (z .0) (w .0)) (tables (now (place .entry)) (now (file .entry)) (now (size .entry)) (now (cost .entry)) (now (freq .entry)) (now (key .entry)) (now (stamp .entry)) (now (queue .entry))) (now (events .entry)) at (admits a (asked f (z .0) (w .0)) (tables (now (place .entry)) (now (file .entry)) (now (size .entry)) (now (cost .entry)) (now (freq .entry)) (now (key .entry)) (now (stamp .entry)) (now (queue .entry)))) r (tables (now (place .exit)) (now (file .exit)) (now (size .exit)) (now (cost .exit)) (now (freq .exit)) (now (key .exit)) (now (stamp .exit)) (now (queue .exit))) (now (entry .exit)) (now (free .exit)) (now (events .exit)) ⌝ }
+    ensures { λ r. ⌜ Met a (tables (now (place .entry)) (now (file .entry)) (now (size .entry)) (now (cost .entry)) (now (freq .entry)) (now (key .entry)) (now (stamp .entry)) (now (queue .entry))) (now (events .entry)) at (admits a (asked f (z .0) (w .0)) (tables (now (place .entry)) (now (file .entry)) (now (size .entry)) (now (cost .entry)) (now (freq .entry)) (now (key .entry)) (now (stamp .entry)) (now (queue .entry)))) r (tables (now (place .exit)) (now (file .exit)) (now (size .exit)) (now (cost .exit)) (now (freq .exit)) (now (key .exit)) (now (stamp .exit)) (now (queue .exit))) (now (entry .exit)) (now (free .exit)) (now (events .exit)) ⌝ }
 {
     let k = a.inflation.plus(amounts::product(1, z, w));
     let most = limit(a.settings.policy, k);
@@ -118,11 +115,10 @@ pub(crate) fn admit(
         let n = a.files_kept as usize;
         let left = room.left;
         put_back(n, left, key, stamp, queue, entry);
-        events[at] = event(LOW, f);
-        return Step {
+        return Untold {
             outcome: Outcome::Passed(Pass::LowKey),
             tally: with_pass(a, z, w),
-            events: at + 1,
+            due: at,
         };
     }
     enter(

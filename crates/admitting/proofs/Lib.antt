@@ -1,0 +1,7 @@
+-- The laws of this room.
+pub mod Beyond
+pub mod Putting
+pub mod Tallies
+pub mod Meetings
+pub mod Entering
+pub mod Admitting
