@@ -74,12 +74,6 @@ unfolding without
 length-without [] x = refl
 length-without (g ∷ gs) x = length-without gs (set x (g .file) none) ∙ simp length-set
 
--- entries past the files kept are as they were
-popped-past : {size keys stamps q₀ e₀ q e : List ℕ} {capacity places z limit n₀ l₀ b₀ m l b : ℕ} → Popped size keys stamps capacity places z limit q₀ e₀ n₀ l₀ b₀ q e m l b
-    → (m ≤ n₀) × ((i : ℕ) → n₀ ≤ i → getD q i 0 ≡ getD q₀ i 0)
-popped-past none = (omega arith, λ i b. refl)
-popped-past (more pop pos w full low rm) = let x = popped-past pop in (omega (arith, x .0), λ i b. rm .apart .past i (omega (arith, x .0)) ∙ x .1 i b)
-
 -- ---- a newcomer, at sound tables
 
 module _ {a : Tally} {q : Request} {t : Tables} {entry free events : List ℕ} {at : ℕ} (h : Admissible a q t entry free events at) where
@@ -189,7 +183,7 @@ module _ {a : Tally} {q : Request} {t : Tables} {entry free events : List ℕ} {
           })
           (g .apart .entries) (g .held) (g .apart .past) (g .whole) in
           let past : drop (a .settings .places .0) queue₂ ≡ drop (a .settings .places .0) (t .queue) =
-          drop-same (t .queue) queue₂ (a .«files_kept») (a .settings .places .0) (g .apart .long ∙ y .apart .long) (live .few) (λ i b. g .apart .past i b ∙ popped-past (y .popped) .1 i b) in
+          drop-same (t .queue) queue₂ (a .«files_kept») (a .settings .places .0) (g .apart .long ∙ y .apart .long) (live .few) (λ i b. g .apart .past i b ∙ y .apart .past i b) in
           meetings.passes (h .meetable) LowKey (low-as (lowly .low)) queue₂ entry₂ settled past tl
 
     -- ---- where there is room: it is evicted
@@ -251,7 +245,7 @@ module _ {a : Tally} {q : Request} {t : Tables} {entry free events : List ℕ} {
           → Met a t events at (admits a q t) w u entry′ free′ events′
       admitted d =
           let past : beyondOf (a .settings) t₁ ≡ beyondOf (a .settings) t =
-          beyond-queue (a .settings) t queue₁ (drop-same (t .queue) queue₁ (a .«files_kept») (a .settings .places .0) (y .apart .long) (live .few) (popped-past (y .popped) .1)) in
+          beyond-queue (a .settings) t queue₁ (drop-same (t .queue) queue₁ (a .«files_kept») (a .settings .places .0) (y .apart .long) (live .few) (y .apart .past)) in
           meetings.met-as enters-as refl
           (record {
             outcome = d .outcome;

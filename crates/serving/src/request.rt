@@ -6,8 +6,6 @@ use amounts::Bytes;
 use amounts::Cost;
 use amounts::Places;
 use counting::with_pass;
-use method::BIG;
-use method::HIT;
 use method::Outcome;
 use method::Pass;
 use method::event;
