@@ -32,10 +32,6 @@ unfoldable pub restAt : List ℕ → List ℕ → List ℕ → ℕ → List Requ
 restAt f s d i = requestsIn (drop i f) (drop i s) (drop i d)
 
 module _ (f s d : List ℕ) where
-  pub rest-first : requestsIn f s d ≡ restAt f s d 0
-  unfolding restAt
-  rest-first = refl
-
   pub rest-end : (i : ℕ) → length f ≤ i → restAt f s d i ≡ []
   unfolding restAt
   rest-end i h = rw (drop-of-length-le f {i = i} h)
