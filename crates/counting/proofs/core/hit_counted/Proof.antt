@@ -20,7 +20,7 @@ add-t9-3 : tie.Need-add-t9-3
 add-t9-3 c = search needs
 
 add-t9-4 : tie.Need-add-t9-4
-add-t9-4 c = let h = c .before .before .before .before .before .before .before .before .before .before .pre in omega (arith, h .few, h .agreed .outcomes, h .agreed .hit-cost-most, h .valued .cost-most)
+add-t9-4 c = let h = c .before .before .before .before .before .before .before .before .before .before .pre in omega (arith, h .few, h .agreed .outcomes, h .agreed .cost .hit-most, h .valued .cost-most)
 
 returns : tie.Need-returns
 returns c = search needs
