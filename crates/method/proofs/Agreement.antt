@@ -5,12 +5,11 @@ use mathlib.Core.List.{List, [], _∷_, _++_}
 use Prim.Native.Nat.{ℕ, zero, suc, _+_, _*_, _≤_, _<_}
 use native.Mathlib.Omega.{arith}
 use lib.ListN.{length, getD}
-use Rattle.amounts.specs.Limits.{sizeMost, costMost}
 use Rattle.amounts.specs.Worth.{Valued}
 use Rattle.amounts.specs.Requests.{Request, resolved, Ranged, AllRanged}
 use Rattle.method.specs.Shelf.{Shelf, none, kept, files}
 use Rattle.method.specs.Method.{Policy, Settings, Reply, Served, State, step, run}
-use Rattle.method.specs.Totals.{Totals, onHit, onAdmitted, onPassed, counted, totals, zeros, Agreed}
+use Rattle.method.specs.Totals.{Totals, onHit, onAdmitted, onPassed, counted, totals, zeros, Amount, Agreed}
 use Rattle.method.specs.Promise.{Sound, SoundAt}
 use Rattle.method.specs.declared.outcome.Outcome.{Outcome}
 use Rattle.method.specs.declared.outcome.Outcome.the-variants.{Hit, Admitted, Passed}
@@ -33,37 +32,21 @@ one-kind Hit = refl
 one-kind Admitted = refl
 one-kind (Passed w) = refl
 
--- what a hit adds, against what the request adds
-record Added (o : Outcome) (n m : ℕ) : Type 0 where
-  least : onHit o 1 ≤ onHit o n
-  most : onHit o n ≤ onHit o 1 * m
-  asked : onHit o n ≤ n
-
-added : (o : Outcome) (n m : ℕ) → 1 ≤ n → n ≤ m → Added o n m
-added Hit n m a b = record { least = omega arith; most = omega arith; asked = omega arith }
-added Admitted n m a b = record { least = omega arith; most = omega arith; asked = omega arith }
-added (Passed w) n m a b = record { least = omega arith; most = omega arith; asked = omega arith }
+-- an amount, of bytes or of cost, with what one request adds to it
+amount-counted : {most hits requests part whole : ℕ} (o : Outcome) (n : ℕ) → 1 ≤ n → n ≤ most → Amount most hits requests part whole
+    → Amount most (hits + onHit o 1) (requests + 1) (part + onHit o n) (whole + n)
+amount-counted Hit n l m g = record { hit-least = omega arith; hit-most = omega arith; hit-asked = omega arith; asked-least = omega arith; asked-most = omega arith }
+amount-counted Admitted n l m g = record { hit-least = omega arith; hit-most = omega arith; hit-asked = omega arith; asked-least = omega arith; asked-most = omega arith }
+amount-counted (Passed w) n l m g = record { hit-least = omega arith; hit-most = omega arith; hit-asked = omega arith; asked-least = omega arith; asked-most = omega arith }
 
 -- one reply counted
 pub counted-agreed : (k k′ : ℕ) (a : Reply) (y : Totals) → Valued (a .size) (a .cost) → length (a .evicted) + k′ ≡ k + onAdmitted (a .outcome) 1 → Agreed k y → Agreed k′ (counted y a)
-counted-agreed k k′ a y v e g =
-    let o : Outcome = a .outcome in
-    let b : Added o (a .size) sizeMost = added o (a .size) sizeMost (v .size-least) (v .size-most) in
-    let d : Added o (a .cost) costMost = added o (a .cost) costMost (v .cost-least) (v .cost-most) in
-    record {
-      outcomes = omega (arith, one-kind o, g .outcomes);
-      evicted = omega (arith, g .evicted);
-      hit-bytes-least = omega (arith, b .least, g .hit-bytes-least);
-      hit-bytes-most = omega (arith, b .most, g .hit-bytes-most);
-      hit-bytes-asked = omega (arith, b .asked, g .hit-bytes-asked);
-      bytes-least = omega (arith, v .size-least, g .bytes-least);
-      bytes-most = omega (arith, v .size-most, g .bytes-most);
-      hit-cost-least = omega (arith, d .least, g .hit-cost-least);
-      hit-cost-most = omega (arith, d .most, g .hit-cost-most);
-      hit-cost-asked = omega (arith, d .asked, g .hit-cost-asked);
-      cost-least = omega (arith, v .cost-least, g .cost-least);
-      cost-most = omega (arith, v .cost-most, g .cost-most);
-    }
+counted-agreed k k′ a y v e g = record {
+  outcomes = omega (arith, one-kind (a .outcome), g .outcomes);
+  evicted = omega (arith, g .evicted);
+  bytes = amount-counted (a .outcome) (a .size) (v .size-least) (v .size-most) (g .bytes);
+  cost = amount-counted (a .outcome) (a .cost) (v .cost-least) (v .cost-most) (g .cost);
+}
 
 -- ---- a request, and a run
 
@@ -85,16 +68,8 @@ zeros-agreed =
     record {
       outcomes = refl;
       evicted = refl;
-      hit-bytes-least = omega arith;
-      hit-bytes-most = omega arith;
-      hit-bytes-asked = omega arith;
-      bytes-least = omega arith;
-      bytes-most = omega arith;
-      hit-cost-least = omega arith;
-      hit-cost-most = omega arith;
-      hit-cost-asked = omega arith;
-      cost-least = omega arith;
-      cost-most = omega arith;
+      bytes = record { hit-least = omega arith; hit-most = omega arith; hit-asked = omega arith; asked-least = omega arith; asked-most = omega arith };
+      cost = record { hit-least = omega arith; hit-most = omega arith; hit-asked = omega arith; asked-least = omega arith; asked-most = omega arith };
     }
 
 -- ---- totals in parts, and how many are counted

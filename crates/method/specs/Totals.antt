@@ -59,17 +59,17 @@ totals y (a ∷ bs) = totals (counted y a) bs
 abbrev pub zeros : Totals
 zeros = record { requests = 0; hits = 0; admitted = 0; passed = 0; evicted = 0; bytes = 0; hitBytes = 0; cost = 0; hitCost = 0 }
 
+-- document 01, "Tables and the tally": hits ≤ hit bytes ≤ hits × most, hit bytes ≤ bytes asked, requests ≤ bytes asked ≤ requests × most; likewise for cost
+pub record Amount (most hits requests part whole : ℕ) : Type 0 where
+  pub hit-least : hits ≤ part
+  pub hit-most : part ≤ hits * most
+  pub hit-asked : part ≤ whole
+  pub asked-least : requests ≤ whole
+  pub asked-most : whole ≤ requests * most
+
 -- document 01, "Tables and the tally": what soundness asks of the totals, with so many files kept
 pub record Agreed (kept : ℕ) (y : Totals) : Type 0 where
   pub outcomes : y .hits + y .admitted + y .passed ≡ y .requests
   pub evicted : y .evicted + kept ≡ y .admitted
-  pub hit-bytes-least : y .hits ≤ y .hitBytes
-  pub hit-bytes-most : y .hitBytes ≤ y .hits * sizeMost
-  pub hit-bytes-asked : y .hitBytes ≤ y .bytes
-  pub bytes-least : y .requests ≤ y .bytes
-  pub bytes-most : y .bytes ≤ y .requests * sizeMost
-  pub hit-cost-least : y .hits ≤ y .hitCost
-  pub hit-cost-most : y .hitCost ≤ y .hits * costMost
-  pub hit-cost-asked : y .hitCost ≤ y .cost
-  pub cost-least : y .requests ≤ y .cost
-  pub cost-most : y .cost ≤ y .requests * costMost
+  pub bytes : Amount sizeMost (y .hits) (y .requests) (y .hitBytes) (y .bytes)
+  pub cost : Amount costMost (y .hits) (y .requests) (y .hitCost) (y .cost)

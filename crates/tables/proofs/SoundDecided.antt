@@ -11,7 +11,7 @@ use Rattle.amounts.proofs.Tests.{same}
 use Rattle.queue.specs.Queue.{lowerAt, times, above, Ordered}
 use Rattle.method.specs.Shelf.{Kept, Slot, none, kept, Shelf, sum, bytes, files, product, Each}
 use Rattle.method.specs.Method as method
-use Rattle.method.specs.Totals.{Totals, Agreed}
+use Rattle.method.specs.Totals.{Totals, Amount, Agreed}
 use Rattle.method.specs.Promise as promise
 use Rattle.method.proofs.Shelves.{none-kept, is-kept, kept-lt, each-cons}
 use Rattle.tables.specs.Tables.{Tables}
@@ -22,35 +22,18 @@ use Rattle.tables.proofs.Deciding.{Decided, decide-as, decide-both, dec
 
 -- ---- the totals
 
-within : (h n x y m : ℕ) → Decided ((h ≤ x) × (x ≤ h * m) × (x ≤ y) × (n ≤ y) × (y ≤ n * m))
-within h n x y m =
-    decide-as (λ p. (p .0, p .1 .0, p .1 .1 .0, p .1 .1 .1 .0, p .1 .1 .1 .1)) (λ p. (p .0, (p .1, (p .2, (p .3, p .4)))))
+amount : (m h n x y : ℕ) → Decided (Amount m h n x y)
+amount m h n x y =
+    decide-as (λ p. record { hit-least = p .0; hit-most = p .1 .0; hit-asked = p .1 .1 .0; asked-least = p .1 .1 .1 .0; asked-most = p .1 .1 .1 .1 })
+    (λ g. (g .hit-least, (g .hit-most, (g .hit-asked, (g .asked-least, g .asked-most)))))
     (decide-both (decide-le h x) (decide-both (decide-le x (h * m)) (decide-both (decide-le x y) (decide-both (decide-le n y) (decide-le y (n * m))))))
 
 agreed : (k : ℕ) (y : Totals) → Decided (Agreed k y)
 agreed k y =
-    decide-as
-    (λ p. record {
-      outcomes = p .0 .0;
-      evicted = p .0 .1;
-      hit-bytes-least = p .1 .0 .0;
-      hit-bytes-most = p .1 .0 .1;
-      hit-bytes-asked = p .1 .0 .2;
-      bytes-least = p .1 .0 .3;
-      bytes-most = p .1 .0 .4;
-      hit-cost-least = p .1 .1 .0;
-      hit-cost-most = p .1 .1 .1;
-      hit-cost-asked = p .1 .1 .2;
-      cost-least = p .1 .1 .3;
-      cost-most = p .1 .1 .4;
-    })
-    (λ g. (
-      (g .outcomes, g .evicted),
-      ((g .hit-bytes-least, g .hit-bytes-most, g .hit-bytes-asked, g .bytes-least, g .bytes-most), (g .hit-cost-least, g .hit-cost-most, g .hit-cost-asked, g .cost-least, g .cost-most)),
-    ))
-    (decide-both
-    (decide-both (same (y .hits + y .admitted + y .passed) (y .requests)) (same (y .evicted + k) (y .admitted)))
-    (decide-both (within (y .hits) (y .requests) (y .hitBytes) (y .bytes) sizeMost) (within (y .hits) (y .requests) (y .hitCost) (y .cost) costMost)))
+    decide-as (λ p. record { outcomes = p .0; evicted = p .1 .0; bytes = p .1 .1 .0; cost = p .1 .1 .1 }) (λ g. (g .outcomes, (g .evicted, (g .bytes, g .cost))))
+    (decide-both (same (y .hits + y .admitted + y .passed) (y .requests))
+    (decide-both (same (y .evicted + k) (y .admitted))
+    (decide-both (amount sizeMost (y .hits) (y .requests) (y .hitBytes) (y .bytes)) (amount costMost (y .hits) (y .requests) (y .hitCost) (y .cost)))))
 
 -- ---- the links and the queue
 

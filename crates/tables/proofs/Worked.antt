@@ -92,16 +92,8 @@ worked = record {
   agreed = record {
     outcomes = refl;
     evicted = refl;
-    hit-bytes-least = omega arith;
-    hit-bytes-most = omega arith;
-    hit-bytes-asked = omega arith;
-    bytes-least = omega arith;
-    bytes-most = omega arith;
-    hit-cost-least = omega arith;
-    hit-cost-most = omega arith;
-    hit-cost-asked = omega arith;
-    cost-least = omega arith;
-    cost-most = omega arith;
+    bytes = record { hit-least = omega arith; hit-most = omega arith; hit-asked = omega arith; asked-least = omega arith; asked-most = omega arith };
+    cost = record { hit-least = omega arith; hit-most = omega arith; hit-asked = omega arith; asked-least = omega arith; asked-most = omega arith };
   };
   few = omega arith;
   linked = record { out = out; unused = unused };

@@ -5,13 +5,13 @@ use mathlib.Core.Bool.{Bool, true, false}
 use mathlib.Core.List.{List}
 use Prim.Native.Nat.{ℕ, _+_, _*_, _≤_, _<_}
 use lib.ListN.{length, getD}
-use Rattle.amounts.specs.Limits.{totalOf, sizeMost, requestsMost, catalogueMost, noPlace}
+use Rattle.amounts.specs.Limits.{sizeMost, requestsMost, catalogueMost, noPlace}
 use Rattle.amounts.specs.Worth.{Valued, worthMost}
 use Rattle.amounts.specs.Settings.{inRange}
 use Rattle.amounts.specs.declared.settings.Settings.{Settings}
 use Rattle.method.specs.Shelf.{Kept, Shelf, sum, bytes, files, product}
 use Rattle.method.specs.Method.{Policy}
-use Rattle.method.specs.Totals.{Agreed}
+use Rattle.method.specs.Totals.{Amount, Agreed}
 use Rattle.method.specs.Promise.{Fine}
 use Rattle.tables.specs.Tables.{Tables, tables, Long, recordAt, shelfOf}
 use Rattle.tables.specs.Tally.{policyIn, totalsOf}
@@ -24,12 +24,6 @@ pub record Exact (P : Type 0) (answer : Bool) : Type 0 where
   pub no : answer ≡ false → P → ⊥
 
 -- ---- The totals
-
--- document 01: hits ≤ hit bytes ≤ hits × most, hit bytes ≤ bytes asked, requests ≤ bytes asked ≤ requests × most; and likewise for cost
-pub record Amount (most hits requests part whole : ℕ) : Type 0 where
-  pub hit : totalOf most hits part ≡ true
-  pub within : part ≤ whole
-  pub asked : totalOf most requests whole ≡ true
 
 -- document 01: hits + admitted + passed = requests, at most 1,048,576; with bytes asked and hit bytes
 pub record Counted (a : Tally) : Type 0 where

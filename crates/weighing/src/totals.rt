@@ -3,7 +3,8 @@ use amounts::Requests;
 use tables::Tally;
 ghost use Prim.Native.Nat.{_≤_};
 ghost use Rattle.amounts.specs.Limits.{requestsMost, sizeMost, costMost};
-ghost use Rattle.weighing.specs.Weighing.{Exact, Amount, Counted, Numbers};
+ghost use Rattle.method.specs.Totals.{Amount};
+ghost use Rattle.weighing.specs.Weighing.{Exact, Counted, Numbers};
 
 // Whether bytes asked and hit bytes lie within their bounds.
 fn bytes_agree(a: Tally) -> bool

@@ -1,8 +1,7 @@
 -- `weighing::totals::bytes_agree` meets its contract. Assumes nothing.
 use borrow.Author.Needs.{needs}
-use borrow.Author.Tests.{le-leb}
 use Rattle.amounts.proofs.Tests.{allowed}
-use Rattle.weighing.proofs.Numbers.{amount-last}
+use Rattle.weighing.proofs.Amounts.{amount-hit, amount-part, amount-last}
 use Rattle.weighing.proofs.Answers.{answer-denied}
 use Rattle.weighing.proofs.totals.bytes_agree.Statement.{statement}
 use Rattle.weighing.proofs.totals.bytes_agree.Tie as tie
@@ -11,13 +10,13 @@ is-total-of-requires : tie.Need-is-total-of-requires
 is-total-of-requires c κs = search needs
 
 returns : tie.Need-returns
-returns c = answer-denied (c .before .is-total-of .ensures) (c .if1 .taken) (λ w. w .hit)
+returns c = answer-denied (c .before .is-total-of .ensures) (c .if1 .taken) amount-hit
 
 at-most-requires : tie.Need-at-most-requires
 at-most-requires c κs = search needs
 
 returns-2 : tie.Need-returns-2
-returns-2 c = answer-denied (c .before .at-most .ensures) (c .if2 .taken) (λ w. le-leb _ _ (w .within))
+returns-2 c = answer-denied (c .before .at-most .ensures) (c .if2 .taken) amount-part
 
 is-total-of-requires-2 : tie.Need-is-total-of-requires-2
 is-total-of-requires-2 c κs = search needs

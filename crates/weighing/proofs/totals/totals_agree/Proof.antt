@@ -2,7 +2,6 @@
 use native.Mathlib.Omega.{arith}
 use borrow.Author.Needs.{needs}
 use Rattle.weighing.specs.Weighing.{Counted}
-use Rattle.weighing.proofs.Numbers.{numbers, numbers-counted, numbers-spent}
 use Rattle.weighing.proofs.Answers.{answer-no, answer-as, passed, failed}
 use Rattle.weighing.proofs.totals.totals_agree.Statement.{statement}
 use Rattle.weighing.proofs.totals.totals_agree.Tie as tie
@@ -15,7 +14,7 @@ counts-agree-requires : tie.Need-counts-agree-requires
 counts-agree-requires c κs = search needs
 
 returns : tie.Need-returns
-returns c = answer-no (λ n. failed (c .before .counts-agree .ensures) (c .if1 .taken) (numbers-counted _ n))
+returns c = answer-no (λ n. failed (c .before .counts-agree .ensures) (c .if1 .taken) (record { few = n .few; outcomes = n .agreed .outcomes; bytes = n .agreed .bytes }))
 
 returns-2 : tie.Need-returns-2
 returns-2 c = answer-no (λ n. omega (arith, n .agreed .evicted))
@@ -32,7 +31,8 @@ cost-agrees-requires c κs =
 returns-4 : tie.Need-returns-4
 returns-4 c =
     let agreed : tie.Else1 = search in
-    answer-as (c .cost-agrees .ensures) (numbers _ (counted agreed) (omega arith)) (numbers-spent _)
+    let h = counted agreed in
+    answer-as (c .cost-agrees .ensures) (λ w. record { few = h .few; agreed = record { outcomes = h .outcomes; evicted = omega arith; bytes = h .bytes; cost = w } }) (λ n. n .agreed .cost)
 
 pub totals-agree-spec : {M : Type 1} → statement M
 totals-agree-spec = tie.close (tie.spec counts-agree-requires returns returns-2 returns-3 cost-agrees-requires returns-4)
