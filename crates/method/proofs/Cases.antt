@@ -58,18 +58,3 @@ module _ (p : Policy) (c : Settings) (l : ℕ) (s : Shelf) (t : ℕ) (q : Reques
       miss-by c l s t q P on-pass p (λ h. admit-by c l s t q P on-pass p (λ a. on-gds a e h) (λ a g. on-gdsf a e h)) (ltb (c .capacity) (q .size)) refl
 
 -- ---- the step itself, by the slot of the file
-
-pub step-hit : (p : Policy) (c : Settings) (st : State) (q : Request) (r : Kept) → getD (st .shelf) (q .file) none ≡ kept r
-    → step p c st q ≡ hit p (st .inflation) (st .shelf) (st .stamp) (q .file) r
-unfolding step
-step-hit p c st q r h = rw h
-
-pub step-big : (p : Policy) (c : Settings) (st : State) (q : Request) → getD (st .shelf) (q .file) none ≡ none → c .capacity < q .size
-    → step p c st q ≡ served (st .inflation) (st .shelf) (st .stamp) (missed (resolved q) [] (Passed TooBig))
-unfolding step
-step-big p c st q h k = rw h (pick-true _ _ (lt-ltb (c .capacity) (q .size) k))
-
-pub step-miss : (p : Policy) (c : Settings) (st : State) (q : Request) → getD (st .shelf) (q .file) none ≡ none → q .size ≤ c .capacity
-    → step p c st q ≡ admit p c (st .inflation) (st .shelf) (st .stamp) (resolved q)
-unfolding step
-step-miss p c st q h k = rw h (pick-false _ _ (le-ltb (c .capacity) (q .size) k))

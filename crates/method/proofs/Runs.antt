@@ -72,10 +72,6 @@ clear-fuel c e (suc n) (suc m) l s h k = clear-fuel-turn c e n m (λ l s. clear-
 abbrev pub first : List Gone → Cleared → Cleared
 first done x = record { inflation = x .inflation; shelf = x .shelf; taken = done ++ x .taken }
 
-pub clear-so-far : (c : Settings) (e : Wanted) (n l : ℕ) (s : Shelf) (done : List Gone) (i : ℕ) (r : Kept) → next c e s ≡ at i r
-    → first done (clear c e (suc n) l s) ≡ first (done ++ record { file = i; was = r } ∷ []) (clear c e n (r .key) (set s i none))
-clear-so-far c e n l s done i r h = rw (clear-more c e n l s i r h, append-assoc done (record { file = i; was = r } ∷ []))
-
 pub goes-append : (f : ℕ) (a b : List Gone) → goes f (a ++ b) ≡ (goes f a || goes f b)
 goes-append f [] b = refl
 goes-append f (g ∷ a) b = rw (goes-append f a b) (sym (or-assoc (eqb f (g .file)) (goes f a) (goes f b)))

@@ -234,9 +234,6 @@ module _ (s : Settings) (n f p : ℕ) (t u : Tables) (entry entry′ free : List
   pub place-free : Occupied s t p → ⊥
   place-free o = st .spare .unused (s .places .0 - n - 1) (omega arith) .1 (subst (Occupied s t) (sym top) o)
 
-  pub place-in : p < s .places .0
-  place-in = omega (arith, top, st .spare .unused (s .places .0 - n - 1) (omega arith) .0)
-
   pub place-unheld : times p (t .queue) n ≡ 0
   place-unheld = unheld p (t .queue) n (λ w. place-free (subst (Occupied s t) (w .is) (h .queued .entries (w .entry) (w .before))))
 

@@ -1,11 +1,11 @@
--- Words: what an answer's word keeps, and that the tally's words and the tally stand for each other. Assumes nothing.
-use mathlib.Core.Path.{_≡_, refl, ap, sym, _∙_}
-use mathlib.Core.List.{List, [], _∷_, _++_}
-use Prim.Native.Nat.{ℕ, zero, suc, _+_, _/_, _%_, _≤_, _<_}
+-- Words: what an answer's word keeps, and that a tally is found again in its words. Assumes nothing.
+use mathlib.Core.Path.{_≡_, refl}
+use mathlib.Core.List.{List}
+use Prim.Native.Nat.{ℕ, _+_, _/_, _%_, _≤_, _<_}
 use native.Mathlib.Nat.{lt-of-lt-of-le}
 use native.Mathlib.Omega.{arith}
-use lib.ListN.{length, getD, take, drop, take-append-drop}
-use lib.Seq.{sets, lt-length-sets, drop-cons}
+use lib.ListN.{length}
+use lib.Seq.{sets, lt-length-sets}
 use Rattle.card.specs.Card.{Card, valueOf, cardOf}
 use Rattle.card.specs.declared.Refusal.{Refusal}
 use Rattle.card.proofs.Cases.{on-card}
@@ -39,31 +39,7 @@ stored vs l h = laid-over vs l (sets l 0 vs) (0 + length vs) h (record { placed 
 pub inside : (n k : ℕ) (l vs : List ℕ) → k < n → n ≤ length l → k < length (sets l 0 vs)
 inside n k l vs h m = lt-length-sets l 0 vs (lt-of-lt-of-le h m)
 
--- the n entries from i on
-abbrev entries : ℕ → ℕ → List ℕ → List ℕ
-entries zero i l = []
-entries (suc n) i l = getD l i 0 ∷ entries n (suc i) l
-
-entries-take : (n i : ℕ) (l : List ℕ) → n + i ≤ length l → entries n i l ≡ take n (drop i l)
-entries-take zero i l h = refl
-entries-take (suc n) i l h =
-    ap (λ (r : List ℕ). getD l i 0 ∷ r) (entries-take n (suc i) l (omega arith)) ∙ sym (ap (take (suc n)) (drop-cons l i 0 (omega arith)))
-
--- the words of the tally that words stand for are the first 17 of them
-pub words-in : (w : List ℕ) → 17 ≤ length w → words (tallyIn w) ≡ take 17 w
-unfolding tallyIn
-words-in w h = entries-take 17 0 w h
-
--- and the words of a tally stand for it
-pub tally-in : (a : Tally) → tallyIn (words a) ≡ a
-unfolding tallyIn
-tally-in a = refl
-
--- also where other words follow: the next call finds the tally that the last one left
+-- the words of a tally stand for it, whatever words follow: the next call finds the tally that the last one left
 pub tally-over : (a : Tally) (w : List ℕ) → tallyIn (over (words a) w) ≡ a
 unfolding tallyIn
 tally-over a w = refl
-
--- a tally that is put back leaves the words as they were
-pub put-back : (w : List ℕ) → 17 ≤ length w → over (words (tallyIn w)) w ≡ w
-put-back w h = ap (λ (l : List ℕ). l ++ drop 17 w) (words-in w h) ∙ take-append-drop 17 w
