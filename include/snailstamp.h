@@ -1,4 +1,5 @@
-/* Snailstamp's boundary for C: `rt staticlib snailstamp` writes target/staticlib/libsnailstamp.a.
+/* Snailstamp's boundary for C: `tools/archive` writes target/staticlib/libsnailstamp.a. docs/BOUNDARY.md has each
+ * function's order of refusals.
  *
  * Every function takes any numbers and any slices, ends, and does its work or refuses by a number of the red card; a
  * refusal changes nothing. A slice is a pointer and its length in elements. Slices do not overlap; an empty one may come
