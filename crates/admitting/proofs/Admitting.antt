@@ -1,7 +1,7 @@
 -- The admission: what making room came to is what the method gives. Assumes nothing.
 use mathlib.Core.Path.{_≡_, refl, sym, ap, _∙_, subst}
 use mathlib.Core.Bool.{Bool, true, false, _&&_}
-use mathlib.Core.List.{List, [], _∷_}
+use mathlib.Core.List.{List, _∷_}
 use Prim.Native.Nat.{ℕ, _+_, _-_, _*_, _≤_, _<_}
 use native.Mathlib.Omega.{arith}
 use native.Mathlib.Nat.{mul-le-mul-right}
@@ -26,7 +26,7 @@ use Rattle.tables.proofs.Ranges.{bounded}
 use Rattle.tables.proofs.Shelves.{shelf-length, shelf-queue}
 use Rattle.shelving.specs.Taking.{Aside, aside}
 use Rattle.shelving.specs.Live.{Live}
-use Rattle.shelving.specs.Room.{roomFor, Roomless, Roomed, Popped, none, more, Apiece, Again}
+use Rattle.shelving.specs.Room.{roomFor, Roomless, Roomed, none, Apiece, Again}
 use Rattle.shelving.specs.Evicting.{withQueue, without}
 use Rattle.shelving.specs.declared.room.Room.{Room}
 use Rattle.shelving.proofs.MakingRoom.{Newest, admit₁, admit₂}

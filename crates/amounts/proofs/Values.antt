@@ -1,12 +1,12 @@
 -- The laws of worth, of the product and of the cost in force. Assumes nothing.
-use mathlib.Core.Path.{_≡_, refl, sym, ap, _∙_}
+use mathlib.Core.Path.{_≡_}
 use mathlib.Core.Logic.{⊎-elim}
 use mathlib.Core.Bool.{true}
-use Prim.Native.Nat.{ℕ, zero, suc, _+_, _*_, _/_, _≤_, _<_}
+use Prim.Native.Nat.{ℕ, suc, _+_, _*_, _≤_}
 use native.Mathlib.Omega.{arith}
 use native.Mathlib.Nat.{div-le-self, le-div-iff-mul-le, mul-le-mul-left, mul-le-mul-right, one-le-mul, one-mul, suc-mul, le-trans}
 use borrow.Author.Tests.{eq-eqb, ne-eqb, leb-true}
-use Rattle.amounts.specs.Limits.{sizeMost, costMost, isSize, isCost, pick}
+use Rattle.amounts.specs.Limits.{sizeMost, costMost, isSize, isCost}
 use Rattle.amounts.specs.Worth.{scale, worthOf, worthMost, productOf, packets, inForce, Valued}
 use Rattle.amounts.proofs.Tests.{one-to, same, pick-true, pick-false}
 

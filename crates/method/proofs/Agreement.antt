@@ -1,20 +1,19 @@
 -- The totals agree with one another and with the shelf after every request. Assumes nothing.
-use mathlib.Core.Path.{_≡_, refl, sym, ap, _∙_}
-use mathlib.Core.Bool.{true}
-use mathlib.Core.List.{List, [], _∷_, _++_}
-use Prim.Native.Nat.{ℕ, zero, suc, _+_, _*_, _≤_, _<_}
+use mathlib.Core.Path.{_≡_, refl}
+use mathlib.Core.List.{List, _∷_, _++_}
+use Prim.Native.Nat.{ℕ, suc, _+_, _≤_}
 use native.Mathlib.Omega.{arith}
 use lib.ListN.{length, getD}
 use Rattle.amounts.specs.Worth.{Valued}
 use Rattle.amounts.specs.Requests.{Request, resolved, Ranged, AllRanged}
-use Rattle.method.specs.Shelf.{Shelf, none, kept, files}
-use Rattle.method.specs.Method.{Policy, Settings, Reply, Served, State, step, run}
+use Rattle.method.specs.Shelf.{none, files}
+use Rattle.method.specs.Method.{Policy, Settings, Reply, State, step, run}
 use Rattle.method.specs.Totals.{Totals, onHit, onAdmitted, onPassed, counted, totals, zeros, Amount, Agreed}
-use Rattle.method.specs.Promise.{Sound, SoundAt}
+use Rattle.method.specs.Promise.{SoundAt}
 use Rattle.method.specs.declared.outcome.Outcome.{Outcome}
 use Rattle.method.specs.declared.outcome.Outcome.the-variants.{Hit, Admitted, Passed}
 use Rattle.method.proofs.Cases.{meet-by}
-use Rattle.method.proofs.Counts.{Counts, step-counts}
+use Rattle.method.proofs.Counts.{step-counts}
 use Rattle.method.proofs.Sound.{resolved-valued, step-sound}
 
 -- a request is counted with a size and a cost in range

@@ -1,16 +1,14 @@
 -- One request by cases: whatever holds of a hit, of a pass and of each policy's admission holds of the step. Assumes nothing.
-use mathlib.Core.Path.{_≡_, refl, ap}
+use mathlib.Core.Path.{_≡_, refl}
 use mathlib.Core.Bool.{Bool, true, false}
-use mathlib.Core.List.{List, [], _∷_}
-use Prim.Native.Nat.{ℕ, suc, _≤_, _<_}
+use Prim.Native.Nat.{ℕ, _≤_}
 use lib.Dec.{ltb}
-use borrow.Author.Tests.{ltb-false, lt-ltb, le-ltb}
+use borrow.Author.Tests.{ltb-false}
 use lib.ListN.{length, getD, set}
 use Rattle.amounts.specs.Limits.{pick}
-use Rattle.amounts.specs.Requests.{Request, resolved}
-use Rattle.amounts.proofs.Tests.{pick-true, pick-false}
+use Rattle.amounts.specs.Requests.{Request}
 use Rattle.method.specs.Shelf.{Kept, Slot, none, kept, Shelf}
-use Rattle.method.specs.Method.{Policy, gds, gdsf, Settings, beside, among, Cleared, clear, Served, State, newcomer, missed, served, hit, goes, settle, admit, miss, meet, step}
+use Rattle.method.specs.Method.{Policy, gds, gdsf, Settings, beside, among, Cleared, clear, Served, State, newcomer, missed, served, hit, goes, settle, admit, meet}
 use Rattle.method.specs.declared.outcome.Pass.{Pass}
 use Rattle.method.specs.declared.outcome.Pass.the-variants.{TooBig, LowKey}
 use Rattle.method.specs.declared.outcome.Outcome.the-variants.{Admitted, Passed}

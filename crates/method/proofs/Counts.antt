@@ -1,17 +1,14 @@
 -- The counts agree: what is evicted and what is kept add up to what was kept and what is admitted. Assumes nothing.
-use mathlib.Core.Path.{_≡_, refl, sym, ap, _∙_, subst}
-use mathlib.Core.Logic.{_⊎_, inl, inr, ⊎-elim}
-use mathlib.Core.Bool.{Bool, true, false}
-use mathlib.Core.List.{List, [], _∷_}
-use Prim.Native.Nat.{ℕ, zero, suc, _+_, _≤_, _<_}
+use mathlib.Core.Path.{_≡_, refl, _∙_}
+use mathlib.Core.List.{_∷_}
+use Prim.Native.Nat.{ℕ, zero, suc, _+_, _<_}
 use native.Mathlib.Omega.{arith}
-use lib.Dec.{ltb}
 use lib.ListN.{length, getD, set, length-set}
 use Rattle.amounts.specs.Requests.{Request, resolved}
 use Rattle.method.specs.Shelf.{Kept, Slot, none, kept, Shelf, files, Found, nothing, at}
 use Rattle.method.specs.Method.{Policy, Settings, Wanted, next, beside, among, Cleared, clear, Served, State, newcomer, hit, keyed, again, step}
 use Rattle.method.specs.Totals.{onAdmitted}
-use Rattle.method.proofs.Shelves.{Good, none-kept, kept-lt, sum-set-eq}
+use Rattle.method.proofs.Shelves.{kept-lt, sum-set-eq}
 use Rattle.method.proofs.Cases.{room₁, admitted₁, admitted₂, meet-by}
 use Rattle.method.proofs.Room.{next-at, clear-stop, clear-more, clear-keeps}
 

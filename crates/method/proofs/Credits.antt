@@ -1,7 +1,7 @@
 -- A key less the inflation is the credit: the method with inflation and the plain method give the same replies. Assumes nothing.
 use mathlib.Core.Path.{_≡_, refl, sym, ap, _∙_}
-use mathlib.Core.Bool.{Bool, true, false, _||_}
-use mathlib.Core.List.{List, [], _∷_, map}
+use mathlib.Core.Bool.{Bool, true, false}
+use mathlib.Core.List.{List, _∷_, map}
 use Prim.Native.Nat.{ℕ, zero, suc, _+_, _-_, _≤_}
 use native.Mathlib.Omega.{arith}
 use lib.Dec.{ltb, eqb}
@@ -12,12 +12,12 @@ use Rattle.amounts.specs.Order.{lowerOf}
 use Rattle.amounts.specs.Requests.{Request, resolved}
 use Rattle.method.specs.Shelf.{Kept, Slot, none, kept, Shelf, sum, Found, nothing, at, lower, lowest, Each}
 use Rattle.method.specs.Method.{Policy, gds, gdsf, Settings, Gone, Reply, Served, Wanted, fits, next, beside, among, Cleared, clear}
-use Rattle.method.specs.Method.{State, served, missed, keyed, newcomer, again, goes, settle, admit, miss, meet, step, fresh, Run, after, run}
+use Rattle.method.specs.Method.{State, served, missed, again, goes, settle, admit, meet, step, fresh, Run, run}
 use Rattle.method.specs.Credit.{less, Drained, too, drain, Ledger, paid, credited, settleC, admitC, meetC, stepC, freshC}
 use Rattle.method.specs.Promise.{bare, plain, SameAsCredit}
-use Rattle.method.specs.declared.outcome.Pass.the-variants.{TooBig, LowKey}
+use Rattle.method.specs.declared.outcome.Pass.the-variants.{TooBig}
 use Rattle.method.specs.declared.outcome.Outcome.{Outcome}
-use Rattle.method.specs.declared.outcome.Outcome.the-variants.{Hit, Admitted, Passed}
+use Rattle.method.specs.declared.outcome.Outcome.the-variants.{Admitted, Passed}
 use Rattle.method.proofs.Shelves.{none-kept, each-set, not-lower-key}
 use Rattle.method.proofs.Room.{next-at, clear-stop, clear-more}
 

@@ -1,17 +1,15 @@
 -- Demand 3, whole. Assumes nothing.
-use mathlib.Core.Path.{_≡_, ap, _∙_, subst}
-use mathlib.Core.List.{List}
-use Prim.Native.Nat.{ℕ, _+_, _*_, _≤_, _<_}
+use mathlib.Core.Path.{_∙_, subst}
+use Prim.Native.Nat.{ℕ, _*_, _≤_}
 use native.Mathlib.Omega.{arith}
 use native.Mathlib.Nat.{mul-le-mul-right, zero-add}
 use lib.ListN.{length}
 use Rattle.amounts.specs.Limits.{requestsMost}
 use Rattle.amounts.specs.Worth.{worthMost}
-use Rattle.amounts.specs.Requests.{Request, AllRanged}
-use Rattle.method.specs.Shelf.{sum, files, product}
+use Rattle.method.specs.Shelf.{files, product}
 use Rattle.method.specs.Method.{Policy, Settings, State, Run, step, fresh, run}
 use Rattle.method.specs.Totals.{zeros, Agreed}
-use Rattle.method.specs.Promise.{Sound, SoundAt, Small, Demand3}
+use Rattle.method.specs.Promise.{SoundAt, Small, Demand3}
 use Rattle.method.proofs.Shelves.{sum-at}
 use Rattle.method.proofs.Sound.{run-sound, fresh-sound, fresh-files, one-place}
 use Rattle.method.proofs.Agreement.{run-agreed, zeros-agreed, totals-requests}

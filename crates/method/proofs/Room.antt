@@ -1,16 +1,16 @@
 -- Laws of `next` and `clear`: one turn; what taking the lowest keeps; and that with turns enough it fits. Assumes nothing.
-use mathlib.Core.Path.{_≡_, refl, ap, _∙_, subst}
+use mathlib.Core.Path.{_≡_, refl, subst}
 use mathlib.Core.Logic.{_⊎_, inl, inr, ⊎-elim}
 use mathlib.Core.Bool.{Bool, true, false, _&&_}
-use mathlib.Core.List.{List, [], _∷_}
-use Prim.Native.Nat.{ℕ, zero, suc, _+_, _≤_, _<_}
+use mathlib.Core.List.{_∷_}
+use Prim.Native.Nat.{ℕ, zero, suc, _+_, _≤_}
 use native.Mathlib.Omega.{arith}
 use lib.Dec.{leb}
 use borrow.Author.Tests.{leb-true}
-use lib.ListN.{length, getD, set}
+use lib.ListN.{getD, set}
 use Rattle.amounts.specs.Limits.{pick}
-use Rattle.method.specs.Shelf.{Kept, Slot, none, kept, Shelf, sum, bytes, files, Found, nothing, at, lowest}
-use Rattle.method.specs.Method.{Settings, Wanted, fits, next, Gone, Cleared, also, clear}
+use Rattle.method.specs.Shelf.{Kept, none, kept, Shelf, sum, bytes, files, Found, nothing, at, lowest}
+use Rattle.method.specs.Method.{Settings, Wanted, fits, next, also, clear}
 use Rattle.method.proofs.Shelves.{Good, lowest-good, sum-set, sum-none}
 
 pub next-at : (c : Settings) (e : Wanted) (s : Shelf) (i : ℕ) (r : Kept) → next c e s ≡ at i r → (fits c e s ≡ false) × Good s (at i r)

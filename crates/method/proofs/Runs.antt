@@ -1,14 +1,14 @@
 -- Laws for whoever builds on the method: a run in parts, turns that make no difference, stamps, the length of the event list. Assumes nothing.
-use mathlib.Core.Path.{_≡_, refl, sym, ap, _∙_}
-use mathlib.Core.Bool.{Bool, true, false, _||_, or-assoc}
-use mathlib.Core.List.{List, [], _∷_, _++_, append-assoc}
-use Prim.Native.Nat.{ℕ, zero, suc, _+_, _*_, _≤_, _<_}
+use mathlib.Core.Path.{_≡_, refl, sym, ap}
+use mathlib.Core.Bool.{true, _||_, or-assoc}
+use mathlib.Core.List.{List, _∷_, _++_, append-assoc}
+use Prim.Native.Nat.{ℕ, zero, suc, _+_, _*_, _≤_}
 use native.Mathlib.Omega.{arith}
 use lib.Dec.{eqb}
 use borrow.Author.Tests.{eq-eqb}
 use lib.ListN.{length, getD, set, length-append, length-map}
-use Rattle.amounts.specs.Requests.{Request, resolved, Ranged, AllRanged}
-use Rattle.method.specs.Shelf.{Kept, Slot, none, kept, Shelf, files, Found, nothing, at}
+use Rattle.amounts.specs.Requests.{Request, resolved, AllRanged}
+use Rattle.method.specs.Shelf.{Kept, none, Shelf, files, Found, nothing, at}
 use Rattle.method.specs.Method.{Policy, Settings, Gone, Reply, Served, Wanted, next, Cleared, also, clear, State, goes, step, run}
 use Rattle.method.specs.Events.{entries, events}
 use Rattle.method.specs.Totals.{onAdmitted}

@@ -2,13 +2,12 @@
 use mathlib.Core.Path.{_≡_, refl, sym, ap, _∙_, subst}
 use mathlib.Core.Logic.{_⊎_, inl, inr, ⊎-elim}
 use mathlib.Core.Bool.{Bool, true, false}
-use mathlib.Core.List.{List, [], _∷_}
+use mathlib.Core.List.{_∷_}
 use Prim.Native.Nat.{ℕ, zero, suc, _+_, _≤_, _<_}
 use native.Mathlib.Omega.{arith}
 use lib.ListN.{length, getD, set}
 use Rattle.amounts.specs.Limits.{pick}
 use Rattle.amounts.specs.Order.{lowerOf}
-use Rattle.amounts.proofs.Tests.{same}
 use Rattle.amounts.proofs.Ordering.{lower-flip, lower-self, lower-trans, lower-false, lower-neither}
 use Rattle.method.specs.Shelf.{Kept, Slot, none, kept, Shelf, weigh, sum, files, NotLower, Found, nothing, at, lower, lowest, Each, Least}
 use Rattle.method.specs.Promise.{Apart}

@@ -1,8 +1,7 @@
 -- What holds after every request, for both policies: `Sound`, from any sound state and from a fresh start. Assumes nothing.
-use mathlib.Core.Path.{_≡_, refl, sym, ap, _∙_, subst}
+use mathlib.Core.Path.{_≡_, refl, sym, _∙_, subst}
 use mathlib.Core.Logic.{_⊎_, inl, inr, ⊎-elim}
-use mathlib.Core.Bool.{true}
-use mathlib.Core.List.{List, [], _∷_}
+use mathlib.Core.List.{List, _∷_}
 use Prim.Native.Nat.{ℕ, zero, suc, _+_, _*_, _≤_, _<_}
 use native.Mathlib.Omega.{arith}
 use lib.ListN.{length, getD, set, replicate, length-set, length-replicate}
@@ -11,7 +10,7 @@ use Rattle.amounts.specs.Worth.{productOf, worthMost, Valued}
 use Rattle.amounts.specs.Requests.{Request, resolved, Ranged, AllRanged}
 use Rattle.amounts.proofs.Tests.{one-to}
 use Rattle.amounts.proofs.Values.{product-most, product-more, product-rises, in-force-valued}
-use Rattle.method.specs.Shelf.{Kept, Slot, none, kept, Shelf, sum, bytes, files, product, Found, at, Each}
+use Rattle.method.specs.Shelf.{Kept, Slot, none, kept, Shelf, sum, bytes, files, product, at, Each}
 use Rattle.method.specs.Method.{Policy, gds, gdsf, Settings, Wanted, beside, among, Cleared, clear, State, hit, keyed, again, newcomer, step, fresh, run}
 use Rattle.method.specs.Promise.{Set, Apart, Once, Fine, Sound, SoundAt}
 use Rattle.method.proofs.Shelves.{Good, none-kept, is-kept, each-set, sum-set, files-le, at-set, not-lower-key}

@@ -1,13 +1,13 @@
 -- The plain method: no inflation, and each eviction subtracts the lowest credit from every credit (document 01, "Credit"; document 001, section 3). `key` is the credit. Assumes nothing.
 use mathlib.Core.Bool.{Bool, true, false}
-use mathlib.Core.List.{List, [], _∷_, map}
+use mathlib.Core.List.{List, _∷_, map}
 use Prim.Native.Nat.{ℕ, zero, suc, _-_}
 use lib.Dec.{ltb}
 use lib.ListN.{length, getD, set, replicate}
 use Rattle.amounts.specs.Limits.{pick}
 use Rattle.amounts.specs.Worth.{productOf}
 use Rattle.amounts.specs.Requests.{Request, resolved}
-use Rattle.method.specs.Shelf.{Kept, Slot, none, kept, Shelf, Found, nothing, at}
+use Rattle.method.specs.Shelf.{Kept, Slot, none, kept, Shelf, nothing, at}
 use Rattle.method.specs.Method.{Policy, gds, gdsf, Settings, Gone, Reply, Served, Wanted, next, beside, among, missed, again, goes}
 use Rattle.method.specs.declared.outcome.Pass.the-variants.{TooBig, LowKey}
 use Rattle.method.specs.declared.outcome.Outcome.the-variants.{Hit, Admitted, Passed}

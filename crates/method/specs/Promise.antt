@@ -1,16 +1,16 @@
 -- What is promised of a run from a fresh start, after every request (demand 3). Assumes nothing.
 use mathlib.Core.Path.{_≡_}
 use mathlib.Core.Bool.{true}
-use mathlib.Core.List.{List, [], _∷_, map}
+use mathlib.Core.List.{List, map}
 use Prim.Native.Nat.{ℕ, _+_, _*_, _≤_, _<_}
 use lib.ListN.{length, getD}
 use Rattle.amounts.specs.Limits.{isCapacity, isPlaces, isCatalogue, requestsMost, word}
 use Rattle.amounts.specs.Worth.{Valued, worthMost}
 use Rattle.amounts.specs.Requests.{Request, AllRanged}
-use Rattle.method.specs.Shelf.{Kept, Slot, none, kept, Shelf, sum, bytes, files, product, Each}
+use Rattle.method.specs.Shelf.{Kept, none, kept, Shelf, sum, bytes, files, product, Each}
 use Rattle.method.specs.Method.{Policy, gds, gdsf, Settings, Gone, Reply, State, Run, run, step, fresh}
 use Rattle.method.specs.Events.{events}
-use Rattle.method.specs.Totals.{Totals, totals, zeros, Agreed}
+use Rattle.method.specs.Totals.{totals, zeros, Agreed}
 use Rattle.method.specs.Credit.{Ledger, less, stepC, freshC}
 
 -- document 01, "Numbers": capacity, places and catalogue in range

@@ -9,18 +9,15 @@ use lib.Dec.{leb, eqb}
 use lib.ListN.{length}
 use Rattle.amounts.specs.Limits.{pick, isUnit, requestsMost}
 use Rattle.amounts.specs.Settings.{inRange}
-use Rattle.amounts.specs.Requests.{Request}
 use Rattle.card.specs.declared.Refusal.{Refusal}
 use Rattle.card.specs.declared.Refusal.the-variants.{Setting, Short, TooMany, Room, OtherUnit}
 use Rattle.trace.specs.Reading.{Read, good, stop, readOf, rows}
 use Rattle.trace.specs.Steps.{counted}
-use Rattle.trace.specs.declared.answer.Answer.{Answer}
 use Rattle.trace.specs.declared.answer.Answer.the-variants.{Done, Refused}
 use Rattle.trace.proofs.Scanning.{counted-good, counted-stop}
 use Rattle.tables.specs.declared.tally.Tally.{Tally}
 use Rattle.tables.proofs.Lengths.{and-right}
 use Rattle.refusing.specs.Judging.{requestsIn, roomed, fittingRead, fitting, settled}
-use Rattle.refusing.specs.declared.settings.Settled.{Settled}
 use Rattle.refusing.specs.declared.settings.Settled.the-variants as verdict
 
 -- ---- the part

@@ -1,7 +1,7 @@
 -- A run carried on: the ways through. Assumes nothing.
 use mathlib.Core.Path.{_≡_, sym, ap, _∙_, subst}
 use mathlib.Core.Bool.{Bool, true}
-use mathlib.Core.List.{List, [], _∷_}
+use mathlib.Core.List.{List, _∷_}
 use Prim.Native.Nat.{ℕ, _≤_}
 use native.Mathlib.Omega.{arith}
 use lib.ListN.{length}
@@ -18,7 +18,7 @@ use Rattle.tables.specs.declared.tally.Tally.{Tally}
 use Rattle.tables.proofs.Lengths.{long-of}
 use Rattle.tables.proofs.Ranges.{bounded}
 use Rattle.serving.specs.Serving.{Running}
-use Rattle.refusing.specs.Judging.{requestsIn, Judgeable, fitting, settled, Orderly}
+use Rattle.refusing.specs.Judging.{Judgeable, fitting, settled, Orderly}
 use Rattle.refusing.specs.declared.settings.Settled.{Settled}
 use Rattle.refusing.specs.declared.settings.Settled.the-variants.{Fine}
 use Rattle.refusing.proofs.Rooms.{fits, settled-fine}

@@ -1,6 +1,6 @@
 -- Demands 2 and 3 over the calls. Assumes nothing.
-use mathlib.Core.Path.{_≡_, refl, sym, ap, _∙_, subst}
-use mathlib.Core.List.{List, [], _∷_, _++_}
+use mathlib.Core.Path.{_≡_, ap, _∙_, subst}
+use mathlib.Core.List.{List, _∷_, _++_}
 use Prim.Native.Nat.{ℕ, _≤_}
 use native.Mathlib.Nat.{zero-add}
 use lib.ListN.{length}
@@ -14,8 +14,8 @@ use Rattle.method.proofs.Agreement.{totals-requests}
 use Rattle.method.proofs.Demand.{demand3}
 use Rattle.trace.proofs.Ranges.{settled}
 use Rattle.trace.proofs.RoundTrip.{part-ranged}
-use Rattle.tables.specs.Tables.{Tables, shelfOf}
-use Rattle.tables.specs.Tally.{storeOf, policyIn, stateOf, totalsOf, freshTally}
+use Rattle.tables.specs.Tables.{shelfOf}
+use Rattle.tables.specs.Tally.{storeOf, policyIn, totalsOf, freshTally}
 use Rattle.tables.proofs.Lengths.{long-of}
 use Rattle.tables.proofs.Shelves.{fresh-shelf}
 use Rattle.tables.proofs.Twins.{fresh-done, freshly-sound}

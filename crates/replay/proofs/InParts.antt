@@ -1,8 +1,8 @@
 -- Calls one after the other come to one run: in parts and at once. Assumes nothing.
 use mathlib.Core.Path.{_≡_, refl, sym, ap, _∙_, subst}
 use mathlib.Core.Bool.{true}
-use mathlib.Core.List.{List, [], _∷_, _++_}
-use Prim.Native.Nat.{ℕ, _+_, _*_, _≤_}
+use mathlib.Core.List.{List, _++_}
+use Prim.Native.Nat.{ℕ, _+_, _≤_}
 use native.Mathlib.Omega.{arith}
 use lib.ListN.{length, take}
 use lib.Seq.{sets, sets-eq, take-at}
@@ -35,7 +35,7 @@ use Rattle.replay.specs.Parts.{runFrom, tallyOf, eventsOf}
 use Rattle.replay.specs.Carrying.{Runs, Answers, Carries}
 use Rattle.replay.specs.Demand.{Goes, here, on, AtOnce}
 use Rattle.replay.specs.declared.carry.Carried.{Carried}
-use Rattle.replay.proofs.Cases.{Sure, dueHere, answers, sure}
+use Rattle.replay.proofs.Cases.{dueHere, answers, sure}
 use Rattle.replay.proofs.OneAnswer.{one-shelf}
 use Rattle.replay.proofs.Walking.{good-one, stands}
 

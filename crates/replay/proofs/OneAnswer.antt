@@ -1,12 +1,11 @@
 -- What a run carried on promises admits one answer, and a fresh start over any old tables gives the same run. Assumes nothing.
 use mathlib.Core.Path.{_≡_, refl, sym, ap, _∙_, subst}
 use mathlib.Core.Bool.{Bool, true}
-use mathlib.Core.List.{List, [], _∷_}
-use Prim.Native.Nat.{ℕ, _≤_}
-use native.Mathlib.Omega.{arith}
+use mathlib.Core.List.{List, _∷_}
+use Prim.Native.Nat.{ℕ}
 use lib.ListN.{length}
 use lib.Seq.{sets}
-use Rattle.amounts.specs.Limits.{noPlace, placesMost}
+use Rattle.amounts.specs.Limits.{noPlace}
 use Rattle.amounts.specs.Settings.{inRange}
 use Rattle.amounts.specs.Requests.{Request}
 use Rattle.amounts.specs.declared.settings.Settings.{Settings}
@@ -30,7 +29,7 @@ use Rattle.tables.proofs.Shelves.{fresh-shelf}
 use Rattle.tables.proofs.Twins.{fresh-done, freshly-sound, twins}
 use Rattle.refusing.specs.Judging.{requestsIn, fitting, settled}
 use Rattle.replay.specs.Parts.{runFrom, tallyOf, eventsOf}
-use Rattle.replay.specs.Carrying.{Refuses, Runs, Answers, Carries}
+use Rattle.replay.specs.Carrying.{Runs, Answers, Carries}
 use Rattle.replay.specs.Agreeing.{Left, Same, Alike}
 use Rattle.replay.specs.declared.carry.Carried.{Carried}
 use Rattle.replay.proofs.Cases.{due, dueHere, due-sound, answers, sure, past}

@@ -1,25 +1,25 @@
 -- Serving a part: one turn, and the whole. Assumes nothing.
 use mathlib.Core.Path.{_≡_, refl, sym, ap, _∙_, subst}
 use mathlib.Core.Bool.{true}
-use mathlib.Core.List.{List, [], _∷_, _++_}
-use Prim.Native.Nat.{ℕ, zero, suc, _+_, _-_, _*_, _≤_, _<_}
+use mathlib.Core.List.{List, _∷_, _++_}
+use Prim.Native.Nat.{ℕ, suc, _+_, _-_, _*_, _≤_, _<_}
 use native.Mathlib.Omega.{arith}
-use lib.ListN.{length, getD, set, drop, length-append, length-map}
+use lib.ListN.{length, set, drop, length-append}
 use lib.Seq.{sets, length-sets}
 use Rattle.amounts.specs.Limits.{requestsMost, catalogueMost, isCatalogue, isSize, isCost}
 use Rattle.amounts.specs.Settings.{inRange}
-use Rattle.amounts.specs.Requests.{Request, Ranged, AllRanged}
+use Rattle.amounts.specs.Requests.{Request, Ranged}
 use Rattle.amounts.specs.declared.settings.Settings.{Settings}
 use Rattle.amounts.proofs.Tests.{in-one-to}
-use Rattle.method.specs.Shelf.{Shelf, files, bytes}
-use Rattle.method.specs.Method.{Policy, State, Served, Reply, Run, run, step}
+use Rattle.method.specs.Shelf.{files, bytes}
+use Rattle.method.specs.Method.{State, Served, Run, run, step}
 use Rattle.method.specs.Events.{entries, events}
-use Rattle.method.specs.Totals.{Totals, totals, counted, onAdmitted}
+use Rattle.method.specs.Totals.{Totals, totals, onAdmitted}
 use Rattle.method.specs.declared.outcome.Outcome.{Outcome}
 use Rattle.method.specs.declared.outcome.Outcome.the-variants.{Hit, Admitted, Passed}
 use Rattle.method.proofs.Runs.{length-entries}
 use Rattle.method.proofs.Counts.{step-counts}
-use Rattle.trace.specs.Reading.{Read, good, readOf}
+use Rattle.trace.specs.Reading.{good, readOf}
 use Rattle.trace.specs.Steps.{Requested, RequestAt, First}
 use Rattle.trace.specs.declared.reader.Taken.{Taken}
 use Rattle.trace.proofs.RoundTrip.{part-ranged}
@@ -32,10 +32,9 @@ use Rattle.tables.proofs.Shelves.{shelf-length}
 use Rattle.counting.specs.Counting.{tallied, after}
 use Rattle.serving.specs.Serving.{Running, Servable, Stepped, asked, beyondOf}
 use Rattle.refusing.specs.Judging.{requestsIn}
-use Rattle.replay.specs.Parts.{runFrom, tallyOf, eventsOf, Ready, PartServed}
+use Rattle.replay.specs.Parts.{runFrom, eventsOf, Ready, PartServed}
 use Rattle.replay.specs.declared.part.Ended.{Ended}
 use Rattle.serving.specs.declared.step.Step.{Step}
-use Rattle.shelving.proofs.Dropping.{SameLengths, same-lengths}
 use Rattle.serving.proofs.Runnings.{next-state}
 
 -- the loop's head: what is left of the run makes of what stands now what the whole makes of what stood at entry

@@ -1,7 +1,6 @@
 -- Sound tables that stand for one shelf differ in nothing but which place a file takes and the queue's order. Assumes nothing.
 use mathlib.Core.Path.{_≡_, refl, sym, ap, _∙_, subst}
-use mathlib.Core.Bool.{true}
-use mathlib.Core.Logic.{_⊎_, inl, inr, ⊎-elim}
+use mathlib.Core.Logic.{_⊎_, ⊎-elim}
 use Prim.Native.Nat.{ℕ, zero, suc, _≤_, _<_}
 use native.Mathlib.Omega.{arith}
 use lib.Dec.{eqb}
@@ -15,7 +14,7 @@ use Rattle.queue.proofs.Totals.{Found, times-found}
 use Rattle.method.specs.Shelf.{Kept, none, kept, Shelf}
 use Rattle.tables.specs.Tables.{Tables, Long, recordAt, slotOf, shelfOf}
 use Rattle.tables.specs.Sound.{At, Occupied, Zero, Linked, Queued}
-use Rattle.tables.specs.Renaming.{Renaming, placed, Renamed}
+use Rattle.tables.specs.Renaming.{Renaming, Renamed}
 use Rattle.tables.proofs.Shelves.{slot-none, slot-kept, shelf-at}
 use Rattle.tables.proofs.SoundDecided.{occupied}
 

@@ -7,7 +7,6 @@ use lib.ListN.{length, drop, getD, length-drop}
 use lib.Seq.{getD-drop}
 use Rattle.amounts.specs.Requests.{Request}
 use Rattle.amounts.specs.declared.settings.Settings.{Settings}
-use Rattle.card.specs.Card.{Card}
 use Rattle.card.proofs.Cases.{answerOn, bad-on}
 use Rattle.trace.specs.Number.{AreBytes}
 use Rattle.trace.specs.Writing.{Put}

@@ -1,7 +1,7 @@
 -- Bytes that were read, taken apart number by number: a request and what comes after it, the five settings. Assumes nothing.
 use Prim.Native.Nat.{ℕ, _%_}
 use mathlib.Core.Path.{_≡_, refl, sym, subst, _∙_}
-use mathlib.Core.List.{List, [], _∷_}
+use mathlib.Core.List.{List, _∷_}
 use mathlib.Core.Bool.{Bool, true, false}
 use native.Mathlib.Omega.{arith}
 use borrow.Author.Tests.{ltb-true, leb-true}
@@ -16,7 +16,7 @@ use Rattle.card.specs.declared.Refusal.the-variants.{Range}
 use Rattle.trace.specs.Number.{Num, num, bad, decode}
 use Rattle.trace.specs.Fields.{val, off, offset, judged, field, onVal, isFile}
 use Rattle.trace.specs.Reading.{Read, good, stop, push, readOf, Opened, opened, shut, setting, settingsOf}
-use Rattle.trace.specs.Steps.{Numbered, NumberAt, Requested, First, RequestAt}
+use Rattle.trace.specs.Steps.{Numbered, NumberAt, Requested, RequestAt}
 use Rattle.trace.specs.declared.number.Number.{Number}
 use Rattle.trace.proofs.Enough.{read-nil, read-cons, After, after-then, decode-after}
 

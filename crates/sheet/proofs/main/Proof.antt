@@ -6,20 +6,11 @@ use borrow.Author.Needs.{needs}
 use Rattle.sheet.proofs.main.Statement.{statement}
 use Rattle.sheet.proofs.main.Tie as tie
 
-slice-aggregate-read-full : tie.Need-slice-aggregate-read-full
-slice-aggregate-read-full c = search needs
-
 read-full-requires : tie.Need-read-full-requires
 read-full-requires c κs = search needs
 
 array-share-prefix-input : tie.Need-array-share-prefix-input
 array-share-prefix-input c = search needs
-
-slice-aggregate-sheet : tie.Need-slice-aggregate-sheet
-slice-aggregate-sheet c = search needs
-
-slice-aggregate-sheet-2 : tie.Need-slice-aggregate-sheet-2
-slice-aggregate-sheet-2 c = search needs
 
 sheet-requires : tie.Need-sheet-requires
 sheet-requires c κs = search needs
@@ -48,17 +39,5 @@ returns-2 c = search needs
 pub main-spec : {M : Type 1} → statement M
 main-spec =
     tie.close
-    (tie.spec
-    slice-aggregate-read-full
-    read-full-requires
-    array-share-prefix-input
-    slice-aggregate-sheet
-    slice-aggregate-sheet-2
-    sheet-requires
-    enum-known-answer
-    array-share-prefix-out
-    slice-aggregate-write-all
-    write-all-requires
-    enum-told
-    returns
-    returns-2)
+    (tie.spec (λ c. search needs) read-full-requires array-share-prefix-input (λ c. search needs) (λ c. search needs) sheet-requires enum-known-answer
+    array-share-prefix-out slice-aggregate-write-all write-all-requires enum-told returns returns-2)

@@ -49,35 +49,8 @@ fresh-requires c κs = search needs
 new-requires : tie.Need-new-requires
 new-requires c κs = search needs
 
-slice-aggregate-carry-on : tie.Need-slice-aggregate-carry-on
-slice-aggregate-carry-on c = search needs
-
-slice-aggregate-carry-on-2 : tie.Need-slice-aggregate-carry-on-2
-slice-aggregate-carry-on-2 c = search needs
-
-slice-aggregate-carry-on-3 : tie.Need-slice-aggregate-carry-on-3
-slice-aggregate-carry-on-3 c = search needs
-
-slice-aggregate-carry-on-4 : tie.Need-slice-aggregate-carry-on-4
-slice-aggregate-carry-on-4 c = search needs
-
-slice-aggregate-carry-on-5 : tie.Need-slice-aggregate-carry-on-5
-slice-aggregate-carry-on-5 c = search needs
-
-slice-aggregate-carry-on-6 : tie.Need-slice-aggregate-carry-on-6
-slice-aggregate-carry-on-6 c = search needs
-
-slice-aggregate-carry-on-7 : tie.Need-slice-aggregate-carry-on-7
-slice-aggregate-carry-on-7 c = search needs
-
-slice-aggregate-carry-on-8 : tie.Need-slice-aggregate-carry-on-8
-slice-aggregate-carry-on-8 c = search needs
-
 carry-on-requires : tie.Need-carry-on-requires
 carry-on-requires c κs = search needs
-
-same-length : tie.Need-same-length
-same-length c = search needs
 
 returns : tie.Need-returns
 returns c =
@@ -90,25 +63,7 @@ returns c =
 pub run-into-spec : {M : Type 1} → statement M
 run-into-spec =
     tie.close
-    (tie.spec
-    slice-aggregate-fresh
-    slice-aggregate-fresh-2
-    slice-aggregate-fresh-3
-    slice-aggregate-fresh-4
-    slice-aggregate-fresh-5
-    slice-aggregate-fresh-6
-    slice-aggregate-fresh-7
-    slice-aggregate-fresh-8
-    fresh-requires
-    new-requires
-    slice-aggregate-carry-on
-    slice-aggregate-carry-on-2
-    slice-aggregate-carry-on-3
-    slice-aggregate-carry-on-4
-    slice-aggregate-carry-on-5
-    slice-aggregate-carry-on-6
-    slice-aggregate-carry-on-7
-    slice-aggregate-carry-on-8
-    carry-on-requires
-    same-length
-    returns)
+    (tie.spec slice-aggregate-fresh slice-aggregate-fresh-2 slice-aggregate-fresh-3 slice-aggregate-fresh-4 slice-aggregate-fresh-5
+    slice-aggregate-fresh-6 slice-aggregate-fresh-7 slice-aggregate-fresh-8 fresh-requires new-requires (λ c. search needs) (λ c. search needs)
+    (λ c. search needs) (λ c. search needs) (λ c. search needs) (λ c. search needs) (λ c. search needs) (λ c. search needs) carry-on-requires
+    (λ c. search needs) returns)

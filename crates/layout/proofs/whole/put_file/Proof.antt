@@ -47,9 +47,6 @@ count-requires c κs = search needs
 put-refused-requires : tie.Need-put-refused-requires
 put-refused-requires c κs = search needs
 
-same-length : tie.Need-same-length
-same-length c = search needs
-
 returns : tie.Need-returns
 returns c =
     let refused = c .before .before in
@@ -64,9 +61,6 @@ count-requires-2 c κs = search needs
 put-refused-requires-2 : tie.Need-put-refused-requires-2
 put-refused-requires-2 c κs = search needs
 
-same-length-2 : tie.Need-same-length-2
-same-length-2 c = search needs
-
 returns-2 : tie.Need-returns-2
 returns-2 c =
     let refused = c .before .before in
@@ -76,9 +70,6 @@ returns-2 c =
     let x = places→start places .args in
     let few = few-places (catalogue .before) in
     laid-as (catalogue-beyond (x .settings) (x .part .now) few (omega (arith, catalogue .count2 .ensures, beyond .if2 .taken))) (refused .put-refused2 .ensures)
-
-slice-aggregate-run-into : tie.Need-slice-aggregate-run-into
-slice-aggregate-run-into c = search needs
 
 run-into-requires : tie.Need-run-into-requires
 run-into-requires c κs = own-at (c .before)
@@ -95,9 +86,6 @@ put-refused-requires-3 c κs = search needs
 enum-known-answer-2 : tie.Need-enum-known-answer-2
 enum-known-answer-2 c = search needs
 
-slice-aggregate-put-page : tie.Need-slice-aggregate-put-page
-slice-aggregate-put-page c = search needs
-
 put-page-requires : tie.Need-put-page-requires
 put-page-requires c κs =
     let done = c .before .before .before .before in
@@ -105,9 +93,6 @@ put-page-requires c κs =
     let start = fits→start (ran→fits ran) in
     let p = ran-done (start .args .settings) (start .args .part .now) _ (own-at (ran→fits ran)) _ _ (ran .run-into .ensures) _ (done .answer2 .given .1) in
     (p .many, page-room _ _ (start .pre .1) (p .short))
-
-same-length-3 : tie.Need-same-length-3
-same-length-3 c = search needs
 
 returns-3 : tie.Need-returns-3
 returns-3 c =
@@ -118,9 +103,6 @@ returns-3 c =
     let x = fits→start (ran→fits ran) .args in
     let p = ran-refused (x .settings) (x .part .now) _ (own-at (ran→fits ran)) _ _ (ran .run-into .ensures) _ (stop .answer .given .1) in
     laid-as (p ∙ ap refusedLine (sym (number .number .ensures))) (refused .put-refused3 .ensures)
-
-same-length-4 : tie.Need-same-length-4
-same-length-4 c = search needs
 
 returns-4 : tie.Need-returns-4
 returns-4 c =
@@ -134,24 +116,6 @@ returns-4 c =
 pub put-file-spec : {M : Type 1} → statement M
 put-file-spec =
     tie.close
-    (tie.spec
-    count-requires
-    put-refused-requires
-    same-length
-    returns
-    count-requires-2
-    put-refused-requires-2
-    same-length-2
-    returns-2
-    slice-aggregate-run-into
-    run-into-requires
-    enum-known-answer
-    number-requires
-    put-refused-requires-3
-    enum-known-answer-2
-    slice-aggregate-put-page
-    put-page-requires
-    same-length-3
-    returns-3
-    same-length-4
-    returns-4)
+    (tie.spec count-requires put-refused-requires (λ c. search needs) returns count-requires-2 put-refused-requires-2 (λ c. search needs) returns-2
+    (λ c. search needs) run-into-requires enum-known-answer number-requires put-refused-requires-3 enum-known-answer-2 (λ c. search needs)
+    put-page-requires (λ c. search needs) returns-3 (λ c. search needs) returns-4)

@@ -11,12 +11,10 @@ slice-aggregate-put-item c = refl
 put-item-requires : tie.Need-put-item-requires
 put-item-requires c κs = refused-room _ _ (c .before .before .before .pre)
 
-same-length : tie.Need-same-length
-same-length c = search needs
-
 returns : tie.Need-returns
 returns c = search needs
 
 pub put-refused-spec : {M : Type 1} → statement M
 put-refused-spec =
-    tie.close (tie.spec slice-aggregate-put-item put-item-requires same-length returns)
+    tie.close
+    (tie.spec slice-aggregate-put-item put-item-requires (λ c. search needs) returns)

@@ -20,9 +20,6 @@ open→settings c = c .before .before
 put-refused-requires : tie.Need-put-refused-requires
 put-refused-requires c κs = search needs
 
-same-length : tie.Need-same-length
-same-length c = search needs
-
 returns : tie.Need-returns
 returns c =
     let refused = c .before .before in
@@ -63,9 +60,6 @@ put-file-requires c κs =
     let start = settings→start settings in
     (start-given (start .args .trace .now) (settings .before .if1 .left) _ (settings .settings-at .ensures) _ _ (found .start2 .given .1), start .pre)
 
-same-length-2 : tie.Need-same-length-2
-same-length-2 c = search needs
-
 returns-2 : tie.Need-returns-2
 returns-2 c =
     let refused = c .before .before in
@@ -74,9 +68,6 @@ returns-2 c =
     let settings = shut→settings shut in
     let p = start-refused (settings→start settings .args .trace .now) (settings .before .if1 .left) _ (settings .settings-at .ensures) _ (shut .start .given .1) in
     laid-as (p ∙ ap refusedLine (sym (number .number .ensures))) (refused .put-refused2 .ensures)
-
-same-length-3 : tie.Need-same-length-3
-same-length-3 c = search needs
 
 returns-3 : tie.Need-returns-3
 returns-3 c =
@@ -88,20 +79,6 @@ returns-3 c =
 pub put-sheet-spec : {M : Type 1} → statement M
 put-sheet-spec =
     tie.close
-    (tie.spec
-    put-refused-requires
-    same-length
-    returns
-    settings-at-requires
-    enum-known-start
-    number-requires
-    put-refused-requires-2
-    enum-known-start-2
-    sub-put-file
-    part-put-file-start
-    part-put-file-end
-    put-file-requires
-    same-length-2
-    returns-2
-    same-length-3
+    (tie.spec put-refused-requires (λ c. search needs) returns settings-at-requires enum-known-start number-requires put-refused-requires-2
+    enum-known-start-2 sub-put-file part-put-file-start part-put-file-end put-file-requires (λ c. search needs) returns-2 (λ c. search needs)
     returns-3)

@@ -6,23 +6,14 @@ use Rattle.layout.proofs.Ways.{own-ample, sheet-short, sheet-copies, sh
 use Rattle.layout.proofs.whole.sheet.Statement.{statement}
 use Rattle.layout.proofs.whole.sheet.Tie as tie
 
-slice-aggregate-put-sheet : tie.Need-slice-aggregate-put-sheet
-slice-aggregate-put-sheet c = search needs
-
 put-sheet-requires : tie.Need-put-sheet-requires
 put-sheet-requires c κs = own-ample sheetMost (omega arith)
 
 returns : tie.Need-returns
 returns c = sheet-short _ _ _ _ (c .before .before .put-sheet .ensures) (own-ample sheetMost (omega arith)) _ (c .if1 .taken)
 
-slice-aggregate-put-bytes : tie.Need-slice-aggregate-put-bytes
-slice-aggregate-put-bytes c = search needs
-
 put-bytes-requires : tie.Need-put-bytes-requires
 put-bytes-requires c κs = sheet-copies _ _ _ _ (c .before .before .before .before .put-sheet .ensures) (own-ample sheetMost (omega arith)) _ (c .before .before .if1 .left)
-
-same-length : tie.Need-same-length
-same-length c = search needs
 
 returns-2 : tie.Need-returns-2
 returns-2 c =
@@ -33,11 +24,4 @@ returns-2 c =
 pub sheet-spec : {M : Type 1} → statement M
 sheet-spec =
     tie.close
-    (tie.spec
-    slice-aggregate-put-sheet
-    put-sheet-requires
-    returns
-    slice-aggregate-put-bytes
-    put-bytes-requires
-    same-length
-    returns-2)
+    (tie.spec (λ c. search needs) put-sheet-requires returns (λ c. search needs) put-bytes-requires (λ c. search needs) returns-2)

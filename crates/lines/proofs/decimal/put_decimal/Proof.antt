@@ -61,21 +61,5 @@ returns c = storing-end _ _ _ _ _ _ (c .before .loop .inv) (c .loop-test .left) 
 pub put-decimal-spec : {M : Type 1} → statement M
 put-decimal-spec =
     tie.close
-    (tie.spec
-    Inv-loop
-    μ-loop
-    width-requires
-    add-end
-    sub-i
-    loop-holds
-    add-out
-    cast-out
-    slice-write-out
-    sub-i-2
-    loop-less
-    loop-again
-    add-out-2
-    cast-out-2
-    slice-write-out-2
-    same-length
-    returns)
+    (tie.spec Inv-loop μ-loop width-requires add-end sub-i loop-holds add-out cast-out slice-write-out sub-i-2 loop-less loop-again add-out-2
+    cast-out-2 slice-write-out-2 same-length returns)

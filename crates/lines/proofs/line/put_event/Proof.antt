@@ -62,9 +62,6 @@ slice-aggregate-put-item c = refl
 put-item-requires : tie.Need-put-item-requires
 put-item-requires c κs = let hit = c .before .before in roomy-as (is-hit hit) (hit→start hit .pre)
 
-same-length : tie.Need-same-length
-same-length c = search needs
-
 returns : tie.Need-returns
 returns c = laid-as (is-hit (c .before .before .before .before .before)) (c .before .before .put-item .ensures)
 
@@ -73,9 +70,6 @@ slice-aggregate-put-item-2 c = refl
 
 put-item-requires-2 : tie.Need-put-item-requires-2
 put-item-requires-2 c κs = let admit = c .before .before in roomy-as (is-admit admit) (admit→start admit .pre)
-
-same-length-2 : tie.Need-same-length-2
-same-length-2 c = search needs
 
 returns-2 : tie.Need-returns-2
 returns-2 c = laid-as (is-admit (c .before .before .before .before .before)) (c .before .before .put-item2 .ensures)
@@ -86,9 +80,6 @@ slice-aggregate-put-item-3 c = refl
 put-item-requires-3 : tie.Need-put-item-requires-3
 put-item-requires-3 c κs = let big = c .before .before in roomy-as (is-big big) (big→start big .pre)
 
-same-length-3 : tie.Need-same-length-3
-same-length-3 c = search needs
-
 returns-3 : tie.Need-returns-3
 returns-3 c = laid-as (is-big (c .before .before .before .before .before)) (c .before .before .put-item3 .ensures)
 
@@ -97,9 +88,6 @@ slice-aggregate-put-item-4 c = refl
 
 put-item-requires-4 : tie.Need-put-item-requires-4
 put-item-requires-4 c κs = let low = c .before .before in roomy-as (is-low low) (low→start low .pre)
-
-same-length-4 : tie.Need-same-length-4
-same-length-4 c = search needs
 
 returns-4 : tie.Need-returns-4
 returns-4 c = laid-as (is-low (c .before .before .before .before .before)) (c .before .before .put-item4 .ensures)
@@ -110,38 +98,13 @@ slice-aggregate-put-item-5 c = refl
 put-item-requires-5 : tie.Need-put-item-requires-5
 put-item-requires-5 c κs = let evict = c .before .before in roomy-as (is-evict evict) (evict→start evict .pre)
 
-same-length-5 : tie.Need-same-length-5
-same-length-5 c = search needs
-
 returns-5 : tie.Need-returns-5
 returns-5 c = laid-as (is-evict (c .before .before .before .before .before)) (c .before .before .put-item5 .ensures)
 
 pub put-event-spec : {M : Type 1} → statement M
 put-event-spec =
     tie.close
-    (tie.spec
-    cast-kind
-    div-kind
-    cast-file
-    rem-file
-    cast-file-2
-    slice-aggregate-put-item
-    put-item-requires
-    same-length
-    returns
-    slice-aggregate-put-item-2
-    put-item-requires-2
-    same-length-2
-    returns-2
-    slice-aggregate-put-item-3
-    put-item-requires-3
-    same-length-3
-    returns-3
-    slice-aggregate-put-item-4
-    put-item-requires-4
-    same-length-4
-    returns-4
-    slice-aggregate-put-item-5
-    put-item-requires-5
-    same-length-5
-    returns-5)
+    (tie.spec cast-kind div-kind cast-file rem-file cast-file-2 slice-aggregate-put-item put-item-requires (λ c. search needs) returns
+    slice-aggregate-put-item-2 put-item-requires-2 (λ c. search needs) returns-2 slice-aggregate-put-item-3 put-item-requires-3 (λ c. search needs)
+    returns-3 slice-aggregate-put-item-4 put-item-requires-4 (λ c. search needs) returns-4 slice-aggregate-put-item-5 put-item-requires-5
+    (λ c. search needs) returns-5)

@@ -57,12 +57,4 @@ returns c =
 pub put-item-spec : {M : Type 1} → statement M
 put-item-spec =
     tie.close
-    (tie.spec
-    put-bytes-requires
-    slice-write-out
-    add-put-decimal
-    put-decimal-requires
-    slice-write-out-2
-    add-result
-    same-length
-    returns)
+    (tie.spec put-bytes-requires slice-write-out add-put-decimal put-decimal-requires slice-write-out-2 add-result same-length returns)

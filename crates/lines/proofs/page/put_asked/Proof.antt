@@ -10,9 +10,6 @@ put-item-requires c κs = roomy-front _ _ _ _ (c .before .before .before .before
 put-item-requires-2 : tie.Need-put-item-requires-2
 put-item-requires-2 c κs = let asked = c .before .before .before in roomy-next _ _ _ _ _ _ (asked .put-item .ensures) (asked .before .before .before .before .before .pre)
 
-same-length : tie.Need-same-length
-same-length c = search needs
-
 returns : tie.Need-returns
 returns c =
     let hit = c .before .before in
@@ -20,4 +17,5 @@ returns c =
     laid-then _ _ _ _ _ _ (asked .put-item .ensures) _ _ (hit .put-item2 .ensures)
 
 pub put-asked-spec : {M : Type 1} → statement M
-put-asked-spec = tie.close (tie.spec put-item-requires put-item-requires-2 same-length returns)
+put-asked-spec = tie.close
+    (tie.spec put-item-requires put-item-requires-2 (λ c. search needs) returns)

@@ -51,9 +51,6 @@ put-item-requires-5 c κs =
     roomy-next _ _ _ _ _ _ (passed .put-item4 .ensures) (roomy-next _ _ _ _ _ _ (admitted .put-item3 .ensures)
     (roomy-next _ _ _ _ _ _ (hits .put-item2 .ensures) (roomy-next _ _ _ _ _ _ (requests .put-item .ensures) (requests .before .before .before .before .pre))))
 
-same-length : tie.Need-same-length
-same-length c = search needs
-
 returns : tie.Need-returns
 returns c =
     let evicted = c .before .before in
@@ -67,16 +64,5 @@ returns c =
 pub put-counts-spec : {M : Type 1} → statement M
 put-counts-spec =
     tie.close
-    (tie.spec
-    slice-aggregate-put-item
-    put-item-requires
-    slice-aggregate-put-item-2
-    put-item-requires-2
-    slice-aggregate-put-item-3
-    put-item-requires-3
-    slice-aggregate-put-item-4
-    put-item-requires-4
-    slice-aggregate-put-item-5
-    put-item-requires-5
-    same-length
-    returns)
+    (tie.spec slice-aggregate-put-item put-item-requires slice-aggregate-put-item-2 put-item-requires-2 slice-aggregate-put-item-3 put-item-requires-3
+    slice-aggregate-put-item-4 put-item-requires-4 slice-aggregate-put-item-5 put-item-requires-5 (λ c. search needs) returns)

@@ -55,15 +55,4 @@ returns c = list-end _ _ _ _ (head→start (c .before) .pre .0) _ _ _ (c .before
 pub put-events-spec : {M : Type 1} → statement M
 put-events-spec =
     tie.close
-    (tie.spec
-    Inv-loop
-    μ-loop
-    loop-holds
-    mul-put-event
-    shared-slice-read-put-event
-    put-event-requires
-    add-i
-    loop-less
-    loop-again
-    same-length
-    returns)
+    (tie.spec Inv-loop μ-loop loop-holds mul-put-event shared-slice-read-put-event put-event-requires add-i loop-less loop-again same-length returns)

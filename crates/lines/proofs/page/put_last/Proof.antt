@@ -28,9 +28,6 @@ put-item-requires-3 c κs =
     let inflation = used .before .before .before .before .before in
     roomy-next _ _ _ _ _ _ (used .put-item2 .ensures) (roomy-next _ _ _ _ _ _ (inflation .put-item .ensures) (inflation .before .before .before .before .pre))
 
-same-length : tie.Need-same-length
-same-length c = search needs
-
 returns : tie.Need-returns
 returns c =
     let files = c .before .before in
@@ -41,12 +38,5 @@ returns c =
 pub put-last-spec : {M : Type 1} → statement M
 put-last-spec =
     tie.close
-    (tie.spec
-    slice-aggregate-put-item
-    put-item-requires
-    slice-aggregate-put-item-2
-    put-item-requires-2
-    slice-aggregate-put-item-3
-    put-item-requires-3
-    same-length
-    returns)
+    (tie.spec slice-aggregate-put-item put-item-requires slice-aggregate-put-item-2 put-item-requires-2 slice-aggregate-put-item-3 put-item-requires-3
+    (λ c. search needs) returns)

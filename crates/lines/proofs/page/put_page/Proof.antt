@@ -100,9 +100,6 @@ put-last-requires c κs =
     let room-last = roomy-next _ _ _ _ _ _ (costs .put-asked2 .ensures) room-costs in
     room-last
 
-same-length : tie.Need-same-length
-same-length c = search needs
-
 returns : tie.Need-returns
 unfolding page
 returns c =
@@ -120,17 +117,5 @@ returns c =
 pub put-page-spec : {M : Type 1} → statement M
 put-page-spec =
     tie.close
-    (tie.spec
-    slice-aggregate-put-item
-    put-item-requires
-    put-events-requires
-    put-counts-requires
-    slice-aggregate-put-asked
-    slice-aggregate-put-asked-2
-    put-asked-requires
-    slice-aggregate-put-asked-3
-    slice-aggregate-put-asked-4
-    put-asked-requires-2
-    put-last-requires
-    same-length
-    returns)
+    (tie.spec slice-aggregate-put-item put-item-requires put-events-requires put-counts-requires slice-aggregate-put-asked slice-aggregate-put-asked-2
+    put-asked-requires slice-aggregate-put-asked-3 slice-aggregate-put-asked-4 put-asked-requires-2 put-last-requires (λ c. search needs) returns)

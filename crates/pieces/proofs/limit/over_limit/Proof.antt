@@ -106,23 +106,5 @@ returns c = search needs
 pub over-limit-spec : {M : Type 1} → statement M
 over-limit-spec =
     tie.close
-    (tie.spec
-    Inv-loop
-    μ-loop
-    loop-holds
-    length-at-requires
-    slice-aggregate-carry-on
-    carry-on-requires
-    add-i
-    loop-less
-    loop-again
-    same-length
-    same-length-2
-    same-length-3
-    same-length-4
-    same-length-5
-    same-length-6
-    same-length-7
-    same-length-8
-    same-length-9
-    returns)
+    (tie.spec Inv-loop μ-loop loop-holds length-at-requires slice-aggregate-carry-on carry-on-requires add-i loop-less loop-again same-length
+    same-length-2 same-length-3 same-length-4 same-length-5 same-length-6 same-length-7 same-length-8 same-length-9 returns)

@@ -13,9 +13,6 @@ returns c = search needs
 slice-aggregate-sheet : tie.Need-slice-aggregate-sheet
 slice-aggregate-sheet c = sym (length-take-le _ _ (omega (arith, c .before .if1 .left)))
 
-slice-aggregate-sheet-2 : tie.Need-slice-aggregate-sheet-2
-slice-aggregate-sheet-2 c = search needs
-
 sheet-requires : tie.Need-sheet-requires
 sheet-requires c κs = search needs
 
@@ -43,15 +40,5 @@ returns-3 c = search needs
 pub print-bytes-spec : {M : Type 1} → statement M
 print-bytes-spec =
     tie.close
-    (tie.spec
-    returns
-    slice-aggregate-sheet
-    slice-aggregate-sheet-2
-    sheet-requires
-    enum-told
-    enum-known-laid
-    array-share-prefix-out
-    slice-aggregate-write-all
-    write-all-requires
-    returns-2
-    returns-3)
+    (tie.spec returns slice-aggregate-sheet (λ c. search needs) sheet-requires enum-told enum-known-laid array-share-prefix-out
+    slice-aggregate-write-all write-all-requires returns-2 returns-3)

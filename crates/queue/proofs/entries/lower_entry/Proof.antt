@@ -30,12 +30,4 @@ returns c = cc
 pub lower-entry-spec : {M : Type 1} → statement M
 lower-entry-spec =
     tie.close
-    (tie.spec
-    mul-wide
-    shared-slice-read-wide
-    wide-requires
-    mul-wide-2
-    shared-slice-read-wide-2
-    wide-requires-2
-    lower-place-requires
-    returns)
+    (tie.spec mul-wide shared-slice-read-wide wide-requires mul-wide-2 shared-slice-read-wide-2 wide-requires-2 lower-place-requires returns)

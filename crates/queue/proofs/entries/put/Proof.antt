@@ -22,25 +22,10 @@ mul-entry c = search needs
 slice-write-entry : tie.Need-slice-write-entry
 slice-write-entry c = search needs
 
-same-length : tie.Need-same-length
-same-length c = search needs
-
-same-length-2 : tie.Need-same-length-2
-same-length-2 c = search needs
-
 returns : tie.Need-returns
 returns c = record { stored = refl; noted = rw (c .wide .ensures) refl }
 
 pub put-spec : {M : Type 1} → statement M
 put-spec =
     tie.close
-    (tie.spec
-    wide-requires
-    mul-queue
-    slice-write-queue
-    cast-entry
-    mul-entry
-    slice-write-entry
-    same-length
-    same-length-2
-    returns)
+    (tie.spec wide-requires mul-queue slice-write-queue cast-entry mul-entry slice-write-entry (λ c. search needs) (λ c. search needs) returns)

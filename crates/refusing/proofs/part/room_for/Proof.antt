@@ -1,6 +1,5 @@
 -- `refusing::part::room_for` meets its contract. Assumes nothing.
 use mathlib.Core.Path.{sym, _∙_}
-use native.Mathlib.Omega.{arith}
 use borrow.Author.Needs.{needs}
 use Rattle.refusing.proofs.Rooms.{fitting-stop, fitting-good}
 use Rattle.refusing.proofs.part.room_for.Statement.{statement}
@@ -27,10 +26,4 @@ returns-2 c = c .has-room .ensures ∙ sym (fitting-good _ _ _ _ (sym (c .before
 pub room-for-spec : {M : Type 1} → statement M
 room-for-spec =
     tie.close
-    (tie.spec
-    scan-requires
-    enum-known-found
-    enum-known-found-2
-    has-room-requires
-    returns
-    returns-2)
+    (tie.spec scan-requires enum-known-found enum-known-found-2 has-room-requires returns returns-2)

@@ -88,15 +88,5 @@ returns-5 c =
 pub judge-settings-spec : {M : Type 1} → statement M
 judge-settings-spec =
     tie.close
-    (tie.spec
-    in-range-requires
-    returns
-    in-range-requires-2
-    returns-2
-    count-requires
-    count-requires-2
-    long-enough-requires
-    returns-3
-    same-requires
-    returns-4
-    returns-5)
+    (tie.spec in-range-requires returns in-range-requires-2 returns-2 count-requires count-requires-2 long-enough-requires returns-3 same-requires
+    returns-4 returns-5)

@@ -153,21 +153,6 @@ with-hit-requires c κs =
     let size = asked→size asked in
     subst₂ (Countable (size→start size .args .a)) (sym (sized size)) (sym (costed asked)) (size→start size .pre .countable)
 
-same-length : tie.Need-same-length
-same-length c = search needs
-
-same-length-2 : tie.Need-same-length-2
-same-length-2 c = search needs
-
-same-length-3 : tie.Need-same-length-3
-same-length-3 c = search needs
-
-same-length-4 : tie.Need-same-length-4
-same-length-4 c = search needs
-
-same-length-5 : tie.Need-same-length-5
-same-length-5 c = search needs
-
 returns : tie.Need-returns
 returns c =
     let rekey = stamp→rekey (c .before .before) in
@@ -184,6 +169,8 @@ returns c =
 
 pub hit-spec : {M : Type 1} → statement M
 hit-spec =
-    tie.close (tie.spec mul-wide32 shared-slice-read-wide32 wide32-requires size-requires mul-wide16 shared-slice-read-wide16 wide16-requires asked-requires
-    mul-wide32-2 slice-read-wide32 wide32-requires-2 again-requires product-requires plus-requires mul-wide16-2 slice-read-wide16 wide16-requires-2 cast-freq
-    mul-freq slice-write-freq rekey-requires with-hit-requires same-length same-length-2 same-length-3 same-length-4 same-length-5 returns)
+    tie.close
+    (tie.spec mul-wide32 shared-slice-read-wide32 wide32-requires size-requires mul-wide16 shared-slice-read-wide16 wide16-requires asked-requires
+    mul-wide32-2 slice-read-wide32 wide32-requires-2 again-requires product-requires plus-requires mul-wide16-2 slice-read-wide16 wide16-requires-2
+    cast-freq mul-freq slice-write-freq rekey-requires with-hit-requires (λ c. search needs) (λ c. search needs) (λ c. search needs)
+    (λ c. search needs) (λ c. search needs) returns)

@@ -32,37 +32,11 @@ insert-requires c κs =
     subst (λ (t : Tables). Insertable (x .queue .now) (x .entry .now) (t .key) (t .stamp) (x .n) (x .p)) e
     (insertable-record _ _ _ _ _ _ _ _ (start .pre .insertable))
 
-same-length : tie.Need-same-length
-same-length c = search needs
-
-same-length-2 : tie.Need-same-length-2
-same-length-2 c = search needs
-
-same-length-3 : tie.Need-same-length-3
-same-length-3 c = search needs
-
-same-length-4 : tie.Need-same-length-4
-same-length-4 c = search needs
-
-same-length-5 : tie.Need-same-length-5
-same-length-5 c = search needs
-
-same-length-6 : tie.Need-same-length-6
-same-length-6 c = search needs
-
-same-length-7 : tie.Need-same-length-7
-same-length-7 c = search needs
-
-same-length-8 : tie.Need-same-length-8
-same-length-8 c = search needs
-
-same-length-9 : tie.Need-same-length-9
-same-length-9 c = search needs
-
 returns : tie.Need-returns
 returns c = search needs
 
 pub keep-spec : {M : Type 1} → statement M
 keep-spec =
-    tie.close (tie.spec put-requires cast-insert insert-requires same-length same-length-2 same-length-3 same-length-4 same-length-5 same-length-6 same-length-7
-    same-length-8 same-length-9 returns)
+    tie.close
+    (tie.spec put-requires cast-insert insert-requires (λ c. search needs) (λ c. search needs) (λ c. search needs) (λ c. search needs)
+    (λ c. search needs) (λ c. search needs) (λ c. search needs) (λ c. search needs) (λ c. search needs) returns)

@@ -23,9 +23,6 @@ put-words-requires c κs = search needs
 answer-word-requires : tie.Need-answer-word-requires
 answer-word-requires c κs = search needs
 
-same-length : tie.Need-same-length
-same-length c = search needs
-
 returns-2 : tie.Need-returns-2
 returns-2 c =
     let put = c .before .before .before in
@@ -34,4 +31,5 @@ returns-2 c =
 pub put-carried-spec : {M : Type 1} → statement M
 put-carried-spec =
     tie.close
-    (tie.spec enum-known-answer refusal-word-requires returns enum-known-answer-2 put-words-requires answer-word-requires same-length returns-2)
+    (tie.spec enum-known-answer refusal-word-requires returns enum-known-answer-2 put-words-requires answer-word-requires (λ c. search needs)
+    returns-2)

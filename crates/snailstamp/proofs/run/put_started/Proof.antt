@@ -19,20 +19,10 @@ enum-known-started-2 c = search needs
 put-words-requires : tie.Need-put-words-requires
 put-words-requires c κs = search needs
 
-same-length : tie.Need-same-length
-same-length c = search needs
-
 returns-2 : tie.Need-returns-2
 returns-2 c = put-done _ (c .before .before .before .before .before .started2 .given .1) (c .before .before .put-words .ensures)
 
 pub put-started-spec : {M : Type 1} → statement M
 put-started-spec =
     tie.close
-    (tie.spec
-    enum-known-started
-    refusal-word-requires
-    returns
-    enum-known-started-2
-    put-words-requires
-    same-length
-    returns-2)
+    (tie.spec enum-known-started refusal-word-requires returns enum-known-started-2 put-words-requires (λ c. search needs) returns-2)

@@ -49,36 +49,6 @@ carry-on-requires c κs = search needs
 put-carried-requires : tie.Need-put-carried-requires
 put-carried-requires c κs = carry-on→else2 (events→carry-on (c .before .before)) .if2 .left
 
-same-length : tie.Need-same-length
-same-length c = search needs
-
-same-length-2 : tie.Need-same-length-2
-same-length-2 c = search needs
-
-same-length-3 : tie.Need-same-length-3
-same-length-3 c = search needs
-
-same-length-4 : tie.Need-same-length-4
-same-length-4 c = search needs
-
-same-length-5 : tie.Need-same-length-5
-same-length-5 c = search needs
-
-same-length-6 : tie.Need-same-length-6
-same-length-6 c = search needs
-
-same-length-7 : tie.Need-same-length-7
-same-length-7 c = search needs
-
-same-length-8 : tie.Need-same-length-8
-same-length-8 c = search needs
-
-same-length-9 : tie.Need-same-length-9
-same-length-9 c = search needs
-
-same-length-10 : tie.Need-same-length-10
-same-length-10 c = search needs
-
 returns-3 : tie.Need-returns-3
 returns-3 c =
     let at-carry-on = put-carried→carry-on (tally→put-carried (c .before)) in
@@ -90,23 +60,6 @@ returns-3 c =
 pub snailstamp-carry-on-spec : {M : Type 1} → statement M
 snailstamp-carry-on-spec =
     tie.close
-    (tie.spec
-    is-unit-requires
-    refusal-word-requires
-    returns
-    refusal-word-requires-2
-    returns-2
-    tally-from-requires
-    carry-on-requires
-    put-carried-requires
-    same-length
-    same-length-2
-    same-length-3
-    same-length-4
-    same-length-5
-    same-length-6
-    same-length-7
-    same-length-8
-    same-length-9
-    same-length-10
-    returns-3)
+    (tie.spec is-unit-requires refusal-word-requires returns refusal-word-requires-2 returns-2 tally-from-requires carry-on-requires
+    put-carried-requires (λ c. search needs) (λ c. search needs) (λ c. search needs) (λ c. search needs) (λ c. search needs) (λ c. search needs)
+    (λ c. search needs) (λ c. search needs) (λ c. search needs) (λ c. search needs) returns-3)

@@ -54,33 +54,6 @@ fresh-requires c κs = search needs
 put-started-requires : tie.Need-put-started-requires
 put-started-requires c κs = fresh→else2 (queue→fresh (c .before .before)) .if2 .left
 
-same-length : tie.Need-same-length
-same-length c = search needs
-
-same-length-2 : tie.Need-same-length-2
-same-length-2 c = search needs
-
-same-length-3 : tie.Need-same-length-3
-same-length-3 c = search needs
-
-same-length-4 : tie.Need-same-length-4
-same-length-4 c = search needs
-
-same-length-5 : tie.Need-same-length-5
-same-length-5 c = search needs
-
-same-length-6 : tie.Need-same-length-6
-same-length-6 c = search needs
-
-same-length-7 : tie.Need-same-length-7
-same-length-7 c = search needs
-
-same-length-8 : tie.Need-same-length-8
-same-length-8 c = search needs
-
-same-length-9 : tie.Need-same-length-9
-same-length-9 c = search needs
-
 returns-3 : tie.Need-returns-3
 returns-3 c =
     let at-fresh = put-started→fresh (tally→put-started (c .before)) in
@@ -92,22 +65,6 @@ returns-3 c =
 pub snailstamp-fresh-spec : {M : Type 1} → statement M
 snailstamp-fresh-spec =
     tie.close
-    (tie.spec
-    settings-from-requires
-    in-range-requires
-    refusal-word-requires
-    returns
-    refusal-word-requires-2
-    returns-2
-    fresh-requires
-    put-started-requires
-    same-length
-    same-length-2
-    same-length-3
-    same-length-4
-    same-length-5
-    same-length-6
-    same-length-7
-    same-length-8
-    same-length-9
-    returns-3)
+    (tie.spec settings-from-requires in-range-requires refusal-word-requires returns refusal-word-requires-2 returns-2 fresh-requires
+    put-started-requires (λ c. search needs) (λ c. search needs) (λ c. search needs) (λ c. search needs) (λ c. search needs) (λ c. search needs)
+    (λ c. search needs) (λ c. search needs) (λ c. search needs) returns-3)

@@ -11,13 +11,11 @@ sheet-requires c κs = search needs
 answer-word-requires : tie.Need-answer-word-requires
 answer-word-requires c κs = search needs
 
-same-length : tie.Need-same-length
-same-length c = search needs
-
 returns : tie.Need-returns
 returns c =
     let h = c .before .before .before .sheet .ensures in
     record { answer = c .answer-word .ensures ∙ ap answerWord (h .answer); buffer = h .buffer }
 
 pub snailstamp-sheet-spec : {M : Type 1} → statement M
-snailstamp-sheet-spec = tie.close (tie.spec sheet-requires answer-word-requires same-length returns)
+snailstamp-sheet-spec = tie.close
+    (tie.spec sheet-requires answer-word-requires (λ c. search needs) returns)

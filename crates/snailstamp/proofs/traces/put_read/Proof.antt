@@ -22,21 +22,10 @@ put-settings-requires c κs = search needs
 answer-word-requires : tie.Need-answer-word-requires
 answer-word-requires c κs = search needs
 
-same-length : tie.Need-same-length
-same-length c = search needs
-
 returns-2 : tie.Need-returns-2
 returns-2 c = read-done _ _ (c .before .before .before .before .before .before .read2 .given .1) (c .answer-word .ensures) (c .before .before .before .put-settings .ensures)
 
 pub put-read-spec : {M : Type 1} → statement M
 put-read-spec =
     tie.close
-    (tie.spec
-    enum-known-read
-    refusal-word-requires
-    returns
-    enum-known-read-2
-    put-settings-requires
-    answer-word-requires
-    same-length
-    returns-2)
+    (tie.spec enum-known-read refusal-word-requires returns enum-known-read-2 put-settings-requires answer-word-requires (λ c. search needs) returns-2)

@@ -54,13 +54,4 @@ returns-3 c =
 pub refused-unread-spec : {M : Type 1} → statement M
 refused-unread-spec =
     tie.close
-    (tie.spec
-    settings-at-requires
-    enum-known-start
-    returns
-    enum-known-start-2
-    scan-requires
-    enum-known-found
-    returns-2
-    enum-told
-    returns-3)
+    (tie.spec settings-at-requires enum-known-start returns enum-known-start-2 scan-requires enum-known-found returns-2 enum-told returns-3)

@@ -29,18 +29,6 @@ read-file-requires c κs = search needs
 put-read-requires : tie.Need-put-read-requires
 put-read-requires c κs = search needs
 
-same-length : tie.Need-same-length
-same-length c = search needs
-
-same-length-2 : tie.Need-same-length-2
-same-length-2 c = search needs
-
-same-length-3 : tie.Need-same-length-3
-same-length-3 c = search needs
-
-same-length-4 : tie.Need-same-length-4
-same-length-4 c = search needs
-
 returns-2 : tie.Need-returns-2
 returns-2 c =
     let at-read-file = put-read→read-file (settings→put-read (c .before)) in
@@ -50,14 +38,5 @@ returns-2 c =
 pub snailstamp-read-file-spec : {M : Type 1} → statement M
 snailstamp-read-file-spec =
     tie.close
-    (tie.spec
-    refused-unread-requires
-    refusal-word-requires
-    returns
-    read-file-requires
-    put-read-requires
-    same-length
-    same-length-2
-    same-length-3
-    same-length-4
-    returns-2)
+    (tie.spec refused-unread-requires refusal-word-requires returns read-file-requires put-read-requires (λ c. search needs) (λ c. search needs)
+    (λ c. search needs) (λ c. search needs) returns-2)

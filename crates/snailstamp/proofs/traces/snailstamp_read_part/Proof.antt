@@ -10,25 +10,10 @@ read-part-requires c κs = search needs
 answer-word-requires : tie.Need-answer-word-requires
 answer-word-requires c κs = search needs
 
-same-length : tie.Need-same-length
-same-length c = search needs
-
-same-length-2 : tie.Need-same-length-2
-same-length-2 c = search needs
-
-same-length-3 : tie.Need-same-length-3
-same-length-3 c = search needs
-
 returns : tie.Need-returns
 returns c = part-words (c .before .before .before .before .before .before .before .read-part .ensures) (c .answer-word .ensures)
 
 pub snailstamp-read-part-spec : {M : Type 1} → statement M
 snailstamp-read-part-spec =
     tie.close
-    (tie.spec
-    read-part-requires
-    answer-word-requires
-    same-length
-    same-length-2
-    same-length-3
-    returns)
+    (tie.spec read-part-requires answer-word-requires (λ c. search needs) (λ c. search needs) (λ c. search needs) returns)

@@ -17,9 +17,6 @@ write-file-requires c κs = search needs
 answer-word-requires : tie.Need-answer-word-requires
 answer-word-requires c κs = search needs
 
-same-length : tie.Need-same-length
-same-length c = search needs
-
 returns : tie.Need-returns
 returns c =
     let start = c .before .before .before .before .before .before .before .before .before .before in
@@ -32,4 +29,4 @@ returns c =
 pub snailstamp-write-file-spec : {M : Type 1} → statement M
 snailstamp-write-file-spec =
     tie.close
-    (tie.spec settings-from-requires write-file-requires answer-word-requires same-length returns)
+    (tie.spec settings-from-requires write-file-requires answer-word-requires (λ c. search needs) returns)

@@ -11,12 +11,10 @@ write-part-requires c κs = search needs
 answer-word-requires : tie.Need-answer-word-requires
 answer-word-requires c κs = search needs
 
-same-length : tie.Need-same-length
-same-length c = search needs
-
 returns : tie.Need-returns
 returns c = wrote-words refl (c .before .before .before .write-part .ensures) (c .answer-word .ensures)
 
 pub snailstamp-write-part-spec : {M : Type 1} → statement M
 snailstamp-write-part-spec =
-    tie.close (tie.spec write-part-requires answer-word-requires same-length returns)
+    tie.close
+    (tie.spec write-part-requires answer-word-requires (λ c. search needs) returns)

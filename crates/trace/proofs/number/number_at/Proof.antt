@@ -48,16 +48,4 @@ loop-again c =
 pub number-at-spec : {M : Type 1} → statement M
 number-at-spec =
     tie.close
-    (tie.spec
-    Inv-loop
-    μ-loop
-    loop-holds
-    shared-slice-read-b
-    cast-value
-    mul-value
-    add-value
-    add-i
-    returns
-    mul-scale
-    loop-less
-    loop-again)
+    (tie.spec Inv-loop μ-loop loop-holds shared-slice-read-b cast-value mul-value add-value add-i returns mul-scale loop-less loop-again)

@@ -43,14 +43,5 @@ returns-5 c =
 pub in-settings-spec : {M : Type 1} → statement M
 in-settings-spec =
     tie.close
-    (tie.spec
-    is-unit-requires
-    returns
-    is-policy-requires
-    returns-2
-    is-capacity-requires
-    returns-3
-    is-places-requires
-    returns-4
-    is-catalogue-requires
+    (tie.spec is-unit-requires returns is-policy-requires returns-2 is-capacity-requires returns-3 is-places-requires returns-4 is-catalogue-requires
     returns-5)

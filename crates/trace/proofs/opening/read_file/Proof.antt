@@ -26,15 +26,6 @@ read-from-requires c κs =
 enum-known-read : tie.Need-enum-known-read
 enum-known-read c = search needs
 
-same-length : tie.Need-same-length
-same-length c = search needs
-
-same-length-2 : tie.Need-same-length-2
-same-length-2 c = search needs
-
-same-length-3 : tie.Need-same-length-3
-same-length-3 c = search needs
-
 returns-2 : tie.Need-returns-2
 returns-2 c =
     let l = c .before .before .before .before .before .before .before .before .before in
@@ -44,15 +35,6 @@ returns-2 c =
 
 enum-known-read-2 : tie.Need-enum-known-read-2
 enum-known-read-2 c = search needs
-
-same-length-4 : tie.Need-same-length-4
-same-length-4 c = search needs
-
-same-length-5 : tie.Need-same-length-5
-same-length-5 c = search needs
-
-same-length-6 : tie.Need-same-length-6
-same-length-6 c = search needs
 
 returns-3 : tie.Need-returns-3
 returns-3 c =
@@ -64,19 +46,5 @@ returns-3 c =
 pub read-file-spec : {M : Type 1} → statement M
 read-file-spec =
     tie.close
-    (tie.spec
-    settings-at-requires
-    enum-known-start
-    returns
-    enum-known-start-2
-    read-from-requires
-    enum-known-read
-    same-length
-    same-length-2
-    same-length-3
-    returns-2
-    enum-known-read-2
-    same-length-4
-    same-length-5
-    same-length-6
-    returns-3)
+    (tie.spec settings-at-requires enum-known-start returns enum-known-start-2 read-from-requires enum-known-read (λ c. search needs)
+    (λ c. search needs) (λ c. search needs) returns-2 enum-known-read-2 (λ c. search needs) (λ c. search needs) (λ c. search needs) returns-3)

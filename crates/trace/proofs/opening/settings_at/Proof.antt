@@ -120,29 +120,6 @@ returns-4 c =
 pub settings-at-spec : {M : Type 1} → statement M
 settings-at-spec =
     tie.close
-    (tie.spec
-    Inv-groups
-    μ-groups
-    Inv-fields
-    μ-fields
-    unset-requires
-    fields-holds
-    groups-holds
-    shared-slice-read-take-group
-    take-group-requires
-    enum-told
-    enum-known-next
-    add-at
-    groups-less
-    groups-again
-    enum-known-next-2
-    in-settings-requires
-    with-setting-requires
-    add-at-2
-    add-field
-    fields-less
-    fields-again
-    returns
-    returns-2
-    returns-3
-    returns-4)
+    (tie.spec Inv-groups μ-groups Inv-fields μ-fields unset-requires fields-holds groups-holds shared-slice-read-take-group take-group-requires
+    enum-told enum-known-next add-at groups-less groups-again enum-known-next-2 in-settings-requires with-setting-requires add-at-2 add-field
+    fields-less fields-again returns returns-2 returns-3 returns-4)

@@ -71,21 +71,5 @@ returns c =
 pub fill-spec : {M : Type 1} → statement M
 fill-spec =
     tie.close
-    (tie.spec
-    Inv-loop
-    μ-loop
-    loop-holds
-    request-at-requires
-    mul-files
-    slice-write-files
-    mul-sizes
-    slice-write-sizes
-    mul-costs
-    slice-write-costs
-    add-i
-    loop-less
-    loop-again
-    same-length
-    same-length-2
-    same-length-3
-    returns)
+    (tie.spec Inv-loop μ-loop loop-holds request-at-requires mul-files slice-write-files mul-sizes slice-write-sizes mul-costs slice-write-costs add-i
+    loop-less loop-again same-length same-length-2 same-length-3 returns)

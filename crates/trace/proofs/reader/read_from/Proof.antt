@@ -46,15 +46,6 @@ fill-requires c κs =
       room-costs = omega arith;
     }
 
-same-length : tie.Need-same-length
-same-length c = search needs
-
-same-length-2 : tie.Need-same-length-2
-same-length-2 c = search needs
-
-same-length-3 : tie.Need-same-length-3
-same-length-3 c = search needs
-
 returns-5 : tie.Need-returns-5
 returns-5 c =
     let l = c .before .before .before .before .before .before in
@@ -64,16 +55,5 @@ returns-5 c =
 pub read-from-spec : {M : Type 1} → statement M
 read-from-spec =
     tie.close
-    (tie.spec
-    scan-requires
-    enum-known-checked
-    returns
-    enum-known-checked-2
-    returns-2
-    returns-3
-    returns-4
-    fill-requires
-    same-length
-    same-length-2
-    same-length-3
-    returns-5)
+    (tie.spec scan-requires enum-known-checked returns enum-known-checked-2 returns-2 returns-3 returns-4 fill-requires (λ c. search needs)
+    (λ c. search needs) (λ c. search needs) returns-5)

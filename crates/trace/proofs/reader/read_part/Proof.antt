@@ -17,15 +17,6 @@ read-from-requires c κs =
     let q = c .before .before .before in
     (omega arith, allowed (q .before .is-catalogue .ensures) (q .if1 .left))
 
-same-length : tie.Need-same-length
-same-length c = search needs
-
-same-length-2 : tie.Need-same-length-2
-same-length-2 c = search needs
-
-same-length-3 : tie.Need-same-length-3
-same-length-3 c = search needs
-
 returns-2 : tie.Need-returns-2
 returns-2 c =
     let l = c .before .before .before .before .before .before in
@@ -35,11 +26,4 @@ returns-2 c =
 pub read-part-spec : {M : Type 1} → statement M
 read-part-spec =
     tie.close
-    (tie.spec
-    is-catalogue-requires
-    returns
-    read-from-requires
-    same-length
-    same-length-2
-    same-length-3
-    returns-2)
+    (tie.spec is-catalogue-requires returns read-from-requires (λ c. search needs) (λ c. search needs) (λ c. search needs) returns-2)

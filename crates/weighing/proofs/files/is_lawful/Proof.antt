@@ -1,6 +1,5 @@
 -- `weighing::files::is_lawful` meets its contract. Assumes nothing.
 use mathlib.Core.Logic.{inl}
-use mathlib.Core.List.{[]}
 use native.Mathlib.Omega.{arith}
 use borrow.Author.Needs.{needs}
 use lib.ListN.{getD}

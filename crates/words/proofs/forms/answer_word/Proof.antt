@@ -30,10 +30,4 @@ returns-2 c = c .refusal-word .ensures ∙ ap (λ (a : Answer). answerWord (answ
 pub answer-word-spec : {M : Type 1} → statement M
 answer-word-spec =
     tie.close
-    (tie.spec
-    enum-known-answer
-    word-requires
-    enum-known-answer-2
-    refusal-word-requires
-    returns
-    returns-2)
+    (tie.spec enum-known-answer word-requires enum-known-answer-2 refusal-word-requires returns returns-2)

@@ -22,20 +22,10 @@ slice-write-out-4 c = inside 5 3 (c .args .out .now) (take 3 (numbers (c .args .
 slice-write-out-5 : tie.Need-slice-write-out-5
 slice-write-out-5 c = inside 5 4 (c .args .out .now) (take 4 (numbers (c .args .s))) (lit< tt) (c .pre)
 
-same-length : tie.Need-same-length
-same-length c = search needs
-
 returns : tie.Need-returns
 returns c = stored (numbers (c .args .s)) (c .args .out .now) (c .pre)
 
 pub put-settings-spec : {M : Type 1} → statement M
 put-settings-spec =
     tie.close
-    (tie.spec
-    slice-write-out
-    slice-write-out-2
-    slice-write-out-3
-    slice-write-out-4
-    slice-write-out-5
-    same-length
-    returns)
+    (tie.spec slice-write-out slice-write-out-2 slice-write-out-3 slice-write-out-4 slice-write-out-5 (λ c. search needs) returns)

@@ -67,23 +67,6 @@ returns c = stored (words (c .args .a)) (c .args .out .now) (c .pre)
 pub put-words-spec : {M : Type 1} → statement M
 put-words-spec =
     tie.close
-    (tie.spec
-    slice-write-out
-    slice-write-out-2
-    slice-write-out-3
-    slice-write-out-4
-    slice-write-out-5
-    slice-write-out-6
-    slice-write-out-7
-    slice-write-out-8
-    slice-write-out-9
-    slice-write-out-10
-    slice-write-out-11
-    slice-write-out-12
-    slice-write-out-13
-    slice-write-out-14
-    slice-write-out-15
-    slice-write-out-16
-    slice-write-out-17
-    same-length
-    returns)
+    (tie.spec slice-write-out slice-write-out-2 slice-write-out-3 slice-write-out-4 slice-write-out-5 slice-write-out-6 slice-write-out-7
+    slice-write-out-8 slice-write-out-9 slice-write-out-10 slice-write-out-11 slice-write-out-12 slice-write-out-13 slice-write-out-14
+    slice-write-out-15 slice-write-out-16 slice-write-out-17 same-length returns)

@@ -65,23 +65,7 @@ returns c = rw (c .before .before .before .before .before .before .before .befor
 pub tally-from-spec : {M : Type 1} → statement M
 tally-from-spec =
     tie.close
-    (tie.spec
-    shared-slice-read-settings-from
-    shared-slice-read-settings-from-2
-    shared-slice-read-settings-from-3
-    shared-slice-read-settings-from-4
-    shared-slice-read-settings-from-5
-    settings-from-requires
-    shared-slice-read-t4
-    shared-slice-read-t12
-    shared-slice-read-t10
-    shared-slice-read-t8
-    shared-slice-read-t6
-    shared-slice-read-t21
-    shared-slice-read-t23
-    shared-slice-read-t25
-    shared-slice-read-t27
-    shared-slice-read-t30
-    shared-slice-read-t33
-    shared-slice-read-t36
-    returns)
+    (tie.spec shared-slice-read-settings-from shared-slice-read-settings-from-2 shared-slice-read-settings-from-3 shared-slice-read-settings-from-4
+    shared-slice-read-settings-from-5 settings-from-requires shared-slice-read-t4 shared-slice-read-t12 shared-slice-read-t10 shared-slice-read-t8
+    shared-slice-read-t6 shared-slice-read-t21 shared-slice-read-t23 shared-slice-read-t25 shared-slice-read-t27 shared-slice-read-t30
+    shared-slice-read-t33 shared-slice-read-t36 returns)

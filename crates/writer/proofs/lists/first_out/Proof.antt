@@ -68,19 +68,5 @@ returns-2 c =
 pub first-out-spec : {M : Type 1} → statement M
 first-out-spec =
     tie.close
-    (tie.spec
-    Inv-loop
-    μ-loop
-    loop-holds
-    mul-ranged
-    shared-slice-read-ranged
-    mul-ranged-2
-    shared-slice-read-ranged-2
-    mul-ranged-3
-    shared-slice-read-ranged-3
-    ranged-requires
-    returns
-    add-i
-    loop-less
-    loop-again
-    returns-2)
+    (tie.spec Inv-loop μ-loop loop-holds mul-ranged shared-slice-read-ranged mul-ranged-2 shared-slice-read-ranged-2 mul-ranged-3
+    shared-slice-read-ranged-3 ranged-requires returns add-i loop-less loop-again returns-2)

@@ -80,22 +80,6 @@ returns-3 c =
 pub measure-spec : {M : Type 1} → statement M
 measure-spec =
     tie.close
-    (tie.spec
-    Inv-loop
-    μ-loop
-    returns
-    loop-holds
-    mul-request-width
-    shared-slice-read-request-width
-    mul-request-width-2
-    shared-slice-read-request-width-2
-    mul-request-width-3
-    shared-slice-read-request-width-3
-    request-width-requires
-    sub-if2
-    returns-2
-    add-total
-    add-i
-    loop-less
-    loop-again
-    returns-3)
+    (tie.spec Inv-loop μ-loop returns loop-holds mul-request-width shared-slice-read-request-width mul-request-width-2
+    shared-slice-read-request-width-2 mul-request-width-3 shared-slice-read-request-width-3 request-width-requires sub-if2 returns-2 add-total add-i
+    loop-less loop-again returns-3)

@@ -69,19 +69,5 @@ returns c =
 pub put-part-spec : {M : Type 1} → statement M
 put-part-spec =
     tie.close
-    (tie.spec
-    Inv-loop
-    μ-loop
-    loop-holds
-    mul-put-request
-    shared-slice-read-put-request
-    mul-put-request-2
-    shared-slice-read-put-request-2
-    mul-put-request-3
-    shared-slice-read-put-request-3
-    put-request-requires
-    add-i
-    loop-less
-    loop-again
-    same-length
-    returns)
+    (tie.spec Inv-loop μ-loop loop-holds mul-put-request shared-slice-read-put-request mul-put-request-2 shared-slice-read-put-request-2
+    mul-put-request-3 shared-slice-read-put-request-3 put-request-requires add-i loop-less loop-again same-length returns)

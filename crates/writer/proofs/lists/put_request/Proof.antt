@@ -19,9 +19,6 @@ put-number-requires-3 c κs =
     let a = b .before .before .before .before in
     (omega arith, roomy-next _ _ _ _ _ _ (b .put-number2 .ensures) (roomy-next _ _ _ _ _ _ (a .put-number .ensures) (a .before .before .before .pre)))
 
-same-length : tie.Need-same-length
-same-length c = search needs
-
 returns : tie.Need-returns
 returns c =
     let d = c .before .before in
@@ -32,4 +29,4 @@ returns c =
 pub put-request-spec : {M : Type 1} → statement M
 put-request-spec =
     tie.close
-    (tie.spec put-number-requires put-number-requires-2 put-number-requires-3 same-length returns)
+    (tie.spec put-number-requires put-number-requires-2 put-number-requires-3 (λ c. search needs) returns)

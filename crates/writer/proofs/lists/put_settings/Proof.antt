@@ -40,9 +40,6 @@ put-number-requires-5 c κs =
     let s = u .before .before .before in
     (settled _ (s .pre .0) .catalogue-small, roomy-next _ _ _ _ _ _ (l .put-number4 .ensures) (roomy-next _ _ _ _ _ _ (k .put-number3 .ensures) (roomy-next _ _ _ _ _ _ (p .put-number2 .ensures) (roomy-next _ _ _ _ _ _ (u .put-number .ensures) (s .pre .1)))))
 
-same-length : tie.Need-same-length
-same-length c = search needs
-
 returns : tie.Need-returns
 returns c =
     let g = c .before .before in
@@ -58,11 +55,4 @@ returns c =
 pub put-settings-spec : {M : Type 1} → statement M
 put-settings-spec =
     tie.close
-    (tie.spec
-    put-number-requires
-    put-number-requires-2
-    put-number-requires-3
-    put-number-requires-4
-    put-number-requires-5
-    same-length
-    returns)
+    (tie.spec put-number-requires put-number-requires-2 put-number-requires-3 put-number-requires-4 put-number-requires-5 (λ c. search needs) returns)

@@ -33,10 +33,4 @@ returns-3 c =
 pub ranged-spec : {M : Type 1} → statement M
 ranged-spec =
     tie.close
-    (tie.spec
-    in-request-requires
-    returns
-    in-request-requires-2
-    returns-2
-    in-request-requires-3
-    returns-3)
+    (tie.spec in-request-requires returns in-request-requires-2 returns-2 in-request-requires-3 returns-3)

@@ -51,14 +51,5 @@ returns c =
 pub settings-width-spec : {M : Type 1} → statement M
 settings-width-spec =
     tie.close
-    (tie.spec
-    width-requires
-    width-requires-2
-    width-requires-3
-    width-requires-4
-    width-requires-5
-    add-result
-    add-result-2
-    add-result-3
-    add-result-4
+    (tie.spec width-requires width-requires-2 width-requires-3 width-requires-4 width-requires-5 add-result add-result-2 add-result-3 add-result-4
     returns)

@@ -48,9 +48,6 @@ put-part-requires c κs =
     let p = file-room _ _ _ _ _ (allowed (i .before .in-range .ensures) (i .if1 .left)) _ (j .before .settings-width .ensures) _ (j .judge .ensures) _ (w .judged2 .given .1) in
     (p .0, roomy-next _ _ _ _ _ _ (s .put-settings .ensures) (p .1))
 
-same-length : tie.Need-same-length
-same-length c = search needs
-
 returns-3 : tie.Need-returns-3
 returns-3 c =
     let l = c .before .before in
@@ -63,15 +60,5 @@ returns-3 c =
 pub write-file-spec : {M : Type 1} → statement M
 write-file-spec =
     tie.close
-    (tie.spec
-    in-range-requires
-    returns
-    settings-width-requires
-    judge-requires
-    enum-known-judged
-    returns-2
-    enum-known-judged-2
-    put-settings-requires
-    put-part-requires
-    same-length
-    returns-3)
+    (tie.spec in-range-requires returns settings-width-requires judge-requires enum-known-judged returns-2 enum-known-judged-2 put-settings-requires
+    put-part-requires (λ c. search needs) returns-3)

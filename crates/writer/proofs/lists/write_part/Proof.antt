@@ -31,9 +31,6 @@ put-part-requires c κs =
     let j = w .before .before in
     part-room _ _ _ _ _ (allowed (j .before .before .is-catalogue .ensures) (j .before .if1 .left)) _ (j .judge .ensures) _ (w .judged2 .given .1)
 
-same-length : tie.Need-same-length
-same-length c = search needs
-
 returns-3 : tie.Need-returns-3
 returns-3 c =
     let l = c .before .before in
@@ -44,13 +41,5 @@ returns-3 c =
 pub write-part-spec : {M : Type 1} → statement M
 write-part-spec =
     tie.close
-    (tie.spec
-    is-catalogue-requires
-    returns
-    judge-requires
-    enum-known-judged
-    returns-2
-    enum-known-judged-2
-    put-part-requires
-    same-length
+    (tie.spec is-catalogue-requires returns judge-requires enum-known-judged returns-2 enum-known-judged-2 put-part-requires (λ c. search needs)
     returns-3)

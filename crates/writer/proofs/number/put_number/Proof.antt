@@ -55,18 +55,5 @@ returns c = putting-end _ _ _ _ _ _ (c .before .loop .inv) (c .loop-test .left)
 pub put-number-spec : {M : Type 1} → statement M
 put-number-spec =
     tie.close
-    (tie.spec
-    Inv-loop
-    μ-loop
-    loop-holds
-    add-out
-    cast-out
-    slice-write-out
-    add-i
-    loop-less
-    loop-again
-    cast-out-2
-    slice-write-out-2
-    add-result
-    same-length
-    returns)
+    (tie.spec Inv-loop μ-loop loop-holds add-out cast-out slice-write-out add-i loop-less loop-again cast-out-2 slice-write-out-2 add-result
+    same-length returns)
