@@ -30,7 +30,7 @@ use Rattle.shelving.specs.Room.{roomFor, Roomless, Roomed, none, Apiece, Again}
 use Rattle.shelving.specs.Evicting.{withQueue, without}
 use Rattle.shelving.specs.declared.room.Room.{Room}
 use Rattle.shelving.proofs.MakingRoom.{Newest, admit₁, admit₂}
-use Rattle.shelving.proofs.Lives.{live-same, stack-same}
+use Rattle.shelving.proofs.Lives.{live-same}
 use Rattle.shelving.proofs.Popping.{Stopped, stopped, Taken, taken, aside-without}
 use Rattle.counting.specs.Counting.{passTally}
 use Rattle.newcomer.specs.Newcomer.{limitOf, baseOf, newRecord}
@@ -171,16 +171,7 @@ module _ {a : Tally} {q : Request} {t : Tables} {entry free events : List ℕ} {
           let settled : Live (a .settings) (a .«files_kept») (a .«files_kept») u entry₂ =
           live-same (a .settings) (a .«files_kept») (r .left) t₁ u entry₁ entry₂ v refl refl
           (λ p _. record { file = refl; size = refl; cost = refl; freq = refl; key = refl; stamp = refl }) (a .«files_kept») (omega arith)
-          (record {
-            place = l .place;
-            file = l .file;
-            size = l .size;
-            cost = l .cost;
-            freq = l .freq;
-            key = l .key;
-            stamp = l .stamp;
-            queue = omega (arith, l .queue, g .apart .long);
-          })
+          (record { place = l .place; file = l .file; size = l .size; cost = l .cost; freq = l .freq; key = l .key; stamp = l .stamp; queue = omega (arith, l .queue, g .apart .long) })
           (g .apart .entries) (g .held) (g .apart .past) (g .whole) in
           let past : drop (a .settings .places .0) queue₂ ≡ drop (a .settings .places .0) (t .queue) =
           drop-same (t .queue) queue₂ (a .«files_kept») (a .settings .places .0) (g .apart .long ∙ y .apart .long) (live .few) (λ i b. g .apart .past i b ∙ y .apart .past i b) in
@@ -222,9 +213,7 @@ module _ {a : Tally} {q : Request} {t : Tables} {entry free events : List ℕ} {
       enterable =
           record {
             live = stays .live;
-            stack =
-                stack-same (a .settings) (a .«files_kept») (a .«files_kept») t t₁ entry entry live refl refl
-                (λ p _. record { file = refl; size = refl; cost = refl; freq = refl; key = refl; stamp = refl }) free (meetings.stack (h .meetable .running));
+            stack = meetings.queue-stack (h .meetable .running) queue₁;
             one = omega (arith, has-room .1);
             known = h .meetable .known;
             out = h .out;

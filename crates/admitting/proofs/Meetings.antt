@@ -74,6 +74,12 @@ module _ {a : Tally} {t : Tables} {entry free : List ℕ} (h : Running a t entry
   pub stack : Stack (a .settings) (a .«files_kept») t free
   stack = record { long = h .free-long; spare = h .desk .spare }
 
+  -- whatever order the queue stands in
+  pub queue-stack : (queue′ : List ℕ) → Stack (a .settings) (a .«files_kept») (withQueue queue′ t) free
+  queue-stack queue′ =
+      stack-same (a .settings) (a .«files_kept») (a .«files_kept») t (withQueue queue′ t) entry entry live refl refl
+      (λ p _. record { file = refl; size = refl; cost = refl; freq = refl; key = refl; stamp = refl }) free stack
+
   pub one-place : 1 ≤ a .settings .places .0
   one-place = limits .places .0
 
@@ -164,9 +170,7 @@ module _ {a : Tally} {q : Request} {t : Tables} {entry free events : List ℕ} {
         written = refl;
         count = omega arith;
         live = l;
-        stack =
-            stack-same s (a .«files_kept») (a .«files_kept») t (withQueue queue′ t) entry entry (live (h .running)) refl refl
-            (λ p _. record { file = refl; size = refl; cost = refl; freq = refl; key = refl; stamp = refl }) free (stack (h .running));
+        stack = queue-stack (h .running) queue′;
         past = beyond-queue s t queue′ past;
       })
 
