@@ -72,7 +72,4 @@ module _ (t : Tables) (queue : List ℕ) where
   spare-requeued x = record { unused = λ i l. let u = x .unused i l in (u .0, λ o. u .1 (occupied-as refl refl o)); apart = x .apart }
 
   pub filed-requeued : {a : Tally} → Filed a t → Filed a requeued
-  filed-requeued x = record {
-    lawful = λ f l. ⊎-elim (λ e. inl e) (λ o. inr (at-as refl refl (o .0), o .1)) (x .lawful f l);
-    balanced = balanced-as _ _ _ _ refl refl refl refl (x .balanced);
-  }
+  filed-requeued x = record { lawful = λ f l. ⊎-elim (λ e. inl e) (λ o. inr (at-as refl refl (o .0), o .1)) (x .lawful f l); balanced = balanced-as _ _ _ _ refl refl refl refl (x .balanced) }

@@ -216,11 +216,7 @@ module _ (a : Tally) (t : Tables) (entry free : List ℕ) (j : Lent a t entry fr
     }
 
     pub readable : (keys stamps : List ℕ) → a .settings .places .0 ≤ length keys → a .settings .places .0 ≤ length stamps → Readable (t .queue) keys stamps (a .«files_kept»)
-    readable keys stamps k s = record {
-      long = omega (arith, j .long .queue);
-      keyed = λ i l. omega (arith, x .entries i l .inside);
-      stamped = λ i l. omega (arith, x .entries i l .inside);
-    }
+    readable keys stamps k s = record { long = omega (arith, j .long .queue); keyed = λ i l. omega (arith, x .entries i l .inside); stamped = λ i l. omega (arith, x .entries i l .inside) }
 
     pub stamped : Stamped (a .«files_kept») (t .queue) (t .stamp)
     stamped = record {

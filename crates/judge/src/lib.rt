@@ -41,10 +41,13 @@ pub fn is_sound(
     if a.settings.places.count() < n {
         return false;
     }
-    if !index_entries(a.settings, n, place, file, queue, entry) {
+    if !rest_zero(a.settings, n, queue) {
         return false;
     }
-    if !rest_zero(a.settings, n, queue) {
+    if !shelf_agrees(a, place, file, size, cost, freq, key, stamp) {
+        return false;
+    }
+    if !index_entries(a.settings, n, place, file, queue, entry) {
         return false;
     }
     if !stack_unused(
@@ -59,9 +62,6 @@ pub fn is_sound(
         entry,
         free,
     ) {
-        return false;
-    }
-    if !shelf_agrees(a, place, file, size, cost, freq, key, stamp) {
         return false;
     }
     if !is_ordered(queue, key, stamp, n) {

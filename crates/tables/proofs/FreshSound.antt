@@ -47,15 +47,8 @@ module _ (s : Settings) (t : Tables) (h : inRange s ≡ true) where
   fresh-sound = record {
     agreed = zeros-agreed;
     few = omega arith;
-    linked = record {
-      out = λ f l. inl (unplaced f l);
-      unused = λ p l _. zero p l;
-    };
-    queued = record {
-      entries = λ i l. absurd (omega arith);
-      once = λ p o. absurd (unoccupied p o);
-      rest = λ i _ l. zero-at (t .queue) i l;
-    };
+    linked = record { out = λ f l. inl (unplaced f l); unused = λ p l _. zero p l };
+    queued = record { entries = λ i l. absurd (omega arith); once = λ p o. absurd (unoccupied p o); rest = λ i _ l. zero-at (t .queue) i l };
     ordered = record { order = λ i _ l. absurd (omega arith) };
     shelf = subst (λ (x : Shelf). promise.Sound (policyIn s) (storeOf s) 0 x 0 0) (sym shelf-is) (method.fresh-sound (policyIn s) (storeOf s));
     files = ap files shelf-is ∙ method.fresh-files (storeOf s);

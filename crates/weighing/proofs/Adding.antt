@@ -1,6 +1,6 @@
 -- Sums over the shelf, read by the places of its files: one file more, the lists that a sum does not look at, and bounds. Assumes nothing.
-use mathlib.Core.Path.{_≡_, refl, ap, _∙_}
-use mathlib.Core.Logic.{⊎-elim}
+use mathlib.Core.Path.{_≡_, refl, sym, ap, _∙_}
+use mathlib.Core.Logic.{_⊎_, ⊎-elim}
 use mathlib.Core.Bool.{Bool, true, false}
 use mathlib.Core.List.{List, _∷_, _++_, map}
 use Prim.Native.Nat.{ℕ, zero, suc, _+_, _*_, _≤_, _<_}
@@ -13,10 +13,11 @@ use Rattle.amounts.specs.Limits.{pick, noPlace, requestsMost}
 use Rattle.amounts.specs.Worth.{worthMost}
 use Rattle.amounts.proofs.Tests.{same}
 use Rattle.amounts.proofs.Values.{product-most}
-use Rattle.method.specs.Shelf.{Kept, Slot, none, kept, Shelf, weigh, sum, product}
+use Rattle.method.specs.Shelf.{Kept, Slot, none, kept, Shelf, weigh, sum, files, product}
 use Rattle.tables.specs.Tables.{Tables, tables, recordAt, slotOf, shelfOf}
 use Rattle.tables.proofs.Shelves.{slot-none, slot-kept}
-use Rattle.weighing.specs.Weighing.{Placing, Weighed, Weighable}
+use Rattle.weighing.specs.Weighing.{Weighable, Summed}
+use Rattle.weighing.specs.declared.sums.Sums.{Sums}
 
 -- the largest 32-bit number, which an entry of a table by place can have
 abbrev pub entryMost : ℕ
@@ -86,6 +87,54 @@ module _ (f g : Kept → ℕ) (t u : Tables) (like : (p : ℕ) → f (recordAt t
   unfolding shelfOf
   sum-same n e = sum-map (take n (t .place)) ∙ ap (λ (l : List ℕ). sum g (map (slotOf u) (take n l))) e
 
+-- ---- files, sizes and frequencies, file by file
+
+module _ (place size freq : List ℕ) where
+  -- the tables that these sums read
+  abbrev pub plain : Tables
+  plain = tables place [] size [] freq [] [] []
+
+  -- the sums of the first f files, which are small
+  pub record Summing (f count bytes freqs : ℕ) : Type 0 where
+    pub count-is : count ≡ files (shelfOf f plain)
+    pub bytes-is : bytes ≡ sum (λ k. k .size) (shelfOf f plain)
+    pub freqs-is : freqs ≡ sum (λ k. k .freq) (shelfOf f plain)
+    pub count-most : count ≤ f
+    pub bytes-most : bytes ≤ f * entryMost
+    pub freqs-most : freqs ≤ f * entryMost
+
+  pub summing-start : Summing 0 0 0 0
+  summing-start =
+      let z : (g : Kept → ℕ) → 0 ≡ sum g (shelfOf 0 plain) = λ g. sym (sum-nobody g plain) in
+      record { count-is = z _; bytes-is = z _; freqs-is = z _; count-most = omega arith; bytes-most = omega arith; freqs-most = omega arith }
+
+  module _ {f count bytes freqs count′ bytes′ freqs′ : ℕ} (g : Summing f count bytes freqs) (h : f < length place) where
+    pub summing-none : getD place f 0 ≡ noPlace → count′ ≡ count → bytes′ ≡ bytes → freqs′ ≡ freqs → Summing (f + 1) count′ bytes′ freqs′
+    summing-none e a b c = record {
+      count-is = sum-none _ plain f h (g .count-is) e a;
+      bytes-is = sum-none _ plain f h (g .bytes-is) e b;
+      freqs-is = sum-none _ plain f h (g .freqs-is) e c;
+      count-most = omega (arith, g .count-most);
+      bytes-most = omega (arith, g .bytes-most);
+      freqs-most = omega (arith, g .freqs-most);
+    }
+
+    pub summing-some : (getD place f 0 ≡ noPlace → ⊥) → getD size (getD place f 0) 0 ≤ entryMost → getD freq (getD place f 0) 0 ≤ entryMost
+        → count′ ≡ count + 1 → bytes′ ≡ bytes + getD size (getD place f 0) 0 → freqs′ ≡ freqs + getD freq (getD place f 0) 0 → Summing (f + 1) count′ bytes′ freqs′
+    summing-some ne l m a b c = record {
+      count-is = sum-some _ plain f h (g .count-is) ne a;
+      bytes-is = sum-some _ plain f h (g .bytes-is) ne b;
+      freqs-is = sum-some _ plain f h (g .freqs-is) ne c;
+      count-most = omega (arith, g .count-most);
+      bytes-most = omega (arith, g .bytes-most);
+      freqs-most = omega (arith, g .freqs-most);
+    }
+
+  pub summing-done : {n f count bytes freqs : ℕ} → f ≡ n → Summing f count bytes freqs → Summed (shelfOf n plain) (record { files = count; bytes = record { 0 = bytes }; freqs = freqs })
+  summing-done {n} {f} e g =
+      let to : (h : Kept → ℕ) → sum h (shelfOf f plain) ≡ sum h (shelfOf n plain) = λ h. ap (λ (k : ℕ). sum h (shelfOf k plain)) e in
+      record { files = g .count-is ∙ to _; bytes = g .bytes-is ∙ to _; freqs = g .freqs-is ∙ to _ }
+
 -- ---- bounds of the products
 
 module _ (place size cost freq : List ℕ) where
@@ -93,35 +142,44 @@ module _ (place size cost freq : List ℕ) where
   abbrev pub weighed : Tables
   weighed = tables place [] size cost freq [] [] []
 
-  -- frequency × worth together is at most the frequencies together × the largest worth
-  products-most : (n : ℕ) → n ≤ length place → Placing (Weighed size cost freq) n place → sum product (shelfOf n weighed) ≤ sum (λ r. r .freq) (shelfOf n weighed) * worthMost
-  products-most zero l v = omega (arith, sum-nobody product weighed)
-  products-most (suc n) l v =
-      let h = products-most n (omega arith) (λ f b. v f (omega arith)) in
-      let p : ℕ = getD place n 0 in
-      let none : p ≡ noPlace → sum product (shelfOf (suc n) weighed) ≤ sum (λ r. r .freq) (shelfOf (suc n) weighed) * worthMost =
-      λ e. omega (arith, more-none product weighed n l e, more-none (λ r. r .freq) weighed n l e) in
-      ⊎-elim
-      none
-      (λ ne. ⊎-elim
-      none
-      (λ w. omega (arith, more-some product weighed n l ne, more-some (λ r. r .freq) weighed n l ne, product-most (getD freq p 0) (getD size p 0) (getD cost p 0) (w .valued)))
-      (v n (omega arith)))
-      (same p noPlace)
+  -- the other sums do not read the costs
+  pub summed-weighed : (n : ℕ) {r : Sums} → Summed (shelfOf n (tables place [] size [] freq [] [] [])) r → Summed (shelfOf n weighed) r
+  summed-weighed n h = record {
+    files = h .files ∙ sum-same (λ k. 1) (λ k. 1) _ _ (λ p. refl) n refl;
+    bytes = h .bytes ∙ sum-same (λ k. k .size) (λ k. k .size) _ _ (λ p. refl) n refl;
+    freqs = h .freqs ∙ sum-same (λ k. k .freq) (λ k. k .freq) _ _ (λ p. refl) n refl;
+  }
 
-  module _ (n : ℕ) (a : Weighable n place size cost freq) (few : sum (λ r. r .freq) (shelfOf n weighed) ≤ requestsMost) (f : ℕ) (h : f < n) (ne : getD place f 0 ≡ noPlace → ⊥) where
-    pub at-file : Weighed size cost freq (getD place f 0)
-    at-file = ⊎-elim (λ e. absurd (ne e)) (λ w. w) (a .weighed f h)
+  module _ (n : ℕ) (a : Weighable n place size cost freq) where
+    -- frequency × worth together is at most the frequencies together × the largest worth
+    products-most : (m : ℕ) → m ≤ n → sum product (shelfOf m weighed) ≤ sum (λ r. r .freq) (shelfOf m weighed) * worthMost
+    products-most zero l = omega (arith, sum-nobody product weighed)
+    products-most (suc m) l =
+        let h = products-most m (omega arith) in
+        let p : ℕ = getD place m 0 in
+        let b : m < length place = omega (arith, a .summable .long) in
+        let none : p ≡ noPlace → sum product (shelfOf (suc m) weighed) ≤ sum (λ r. r .freq) (shelfOf (suc m) weighed) * worthMost =
+        λ e. omega (arith, more-none product weighed m b e, more-none (λ r. r .freq) weighed m b e) in
+        ⊎-elim
+        none
+        (λ ne. ⊎-elim
+        none
+        (λ w. omega (arith, more-some product weighed m b ne, more-some (λ r. r .freq) weighed m b ne, product-most (getD freq p 0) (getD size p 0) (getD cost p 0) (w .1)))
+        (a .valued m l))
+        (same p noPlace)
 
-    -- the frequencies with the file's
-    freqs-small : sum (λ r. r .freq) (shelfOf (suc f) weighed) ≤ requestsMost
-    freqs-small = omega (arith, sum-rises (λ r. r .freq) weighed (suc f) n (omega arith) (a .catalogued .long))
+    module _ (few : sum (λ r. r .freq) (shelfOf n weighed) ≤ requestsMost) (f : ℕ) (h : f < n) (ne : getD place f 0 ≡ noPlace → ⊥) where
+      -- the frequencies with the file's
+      freqs-small : sum (λ r. r .freq) (shelfOf (suc f) weighed) ≤ requestsMost
+      freqs-small = omega (arith, sum-rises (λ r. r .freq) weighed (suc f) n (omega arith) (a .summable .long))
 
-    pub freq-small : getD freq (getD place f 0) 0 ≤ requestsMost
-    freq-small = omega (arith, freqs-small, more-some (λ r. r .freq) weighed f (omega (arith, a .catalogued .long)) ne)
+      pub freq-small : getD freq (getD place f 0) 0 ≤ requestsMost
+      freq-small = omega (arith, freqs-small, more-some (λ r. r .freq) weighed f (omega (arith, a .summable .long)) ne)
 
-    -- no sum on the way passes a word
-    pub sum-small : {v w : ℕ} → v ≡ sum product (shelfOf f weighed) → w ≡ product (recordAt weighed (getD place f 0)) → v + w ≤ requestsMost * worthMost
-    sum-small d e =
-        let l : f < length place = omega (arith, a .catalogued .long) in
-        omega (arith, freqs-small, more-some product weighed f l ne, products-most (suc f) l (λ k b. a .weighed k (omega arith)))
+      -- no sum on the way passes a word
+      pub sum-small : {v w : ℕ} → v ≡ sum product (shelfOf f weighed) → w ≡ product (recordAt weighed (getD place f 0)) → v + w ≤ requestsMost * worthMost
+      sum-small d e = omega (arith, freqs-small, more-some product weighed f (omega (arith, a .summable .long)) ne, products-most (suc f) (omega arith))
+
+-- where a file has a place, what is said of that place
+pub placed : {P : Type 0} {p : ℕ} → (p ≡ noPlace → ⊥) → (p ≡ noPlace) ⊎ P → P
+placed ne x = ⊎-elim (λ e. absurd (ne e)) (λ h. h) x

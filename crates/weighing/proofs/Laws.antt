@@ -16,7 +16,8 @@ use Rattle.method.specs.Promise.{Once, Fine}
 use Rattle.tables.specs.Tables.{Tables, recordAt}
 use Rattle.tables.specs.Tally.{policyIn}
 use Rattle.tables.specs.declared.tally.Tally.{Tally}
-use Rattle.weighing.specs.Weighing.{Exact, Right, Lawful, Balanced}
+use Rattle.weighing.specs.Weighing.{Exact, Right, Lawful, Summed, Balanced}
+use Rattle.weighing.specs.declared.sums.Sums.{Sums}
 use Rattle.weighing.proofs.Answers.{answer-yes, answer-test, answer-call, answer-as}
 
 -- ---- a frequency is exactly 1 for policy 1
@@ -52,11 +53,17 @@ module _ (s : Settings) (l n : ℕ) (t : Tables) (f : ℕ) (has : getD (t .place
 -- ---- the sums
 
 -- by the tests, the last of inflation and the products
-pub balanced-last : (a : Tally) (s : Shelf) {n m d w : ℕ} {b : Bool} → files s ≡ a .«files_kept» → n ≡ bytes s → eqb n (a .«bytes_kept» .0) ≡ true → leb n (a .settings .capacity .0) ≡ true
-    → sum (λ r. r .freq) s ≤ a .requests → m ≡ a .requests * worthMost → leb (a .inflation .0) m ≡ true → d ≡ m - a .inflation .0 → w ≡ sum product s → b ≡ leb w d → Exact (Balanced a s) b
-balanced-last a s {n} {m} {d} {w} f y k c g o l u v e =
-    let kept : n ≡ a .«bytes_kept» .0 = eqb-true n (a .«bytes_kept» .0) k in
+pub balanced-last : (a : Tally) (s : Shelf) {y : Sums} {m d w : ℕ} {b : Bool} → Summed s y → y .files ≡ a .«files_kept» → eqb (y .bytes .0) (a .«bytes_kept» .0) ≡ true
+    → leb (a .«bytes_kept» .0) (a .settings .capacity .0) ≡ true → y .freqs ≤ a .requests → m ≡ a .requests * worthMost → leb (a .inflation .0) m ≡ true
+    → d ≡ m - a .inflation .0 → w ≡ sum product s → b ≡ leb w d → Exact (Balanced a s) b
+balanced-last a s {y} {m} {d} {w} h f k c g o l u v e =
     let most = leb-true (a .inflation .0) m l in
     answer-call e
-    (λ h. record { files = f; bytes = sym y ∙ kept; fits = omega (arith, leb-true n (a .settings .capacity .0) c); freqs = g; total = omega (arith, leb-true w d h) })
+    (λ x. record {
+      files = sym (h .files) ∙ f;
+      bytes = sym (h .bytes) ∙ eqb-true (y .bytes .0) (a .«bytes_kept» .0) k;
+      fits = leb-true (a .«bytes_kept» .0) (a .settings .capacity .0) c;
+      freqs = omega (arith, h .freqs);
+      total = omega (arith, leb-true w d x);
+    })
     (λ x. le-leb w d (omega (arith, x .total)))

@@ -10,7 +10,7 @@ use Rattle.method.specs.Shelf.{product}
 use Rattle.tables.specs.Tables.{Tables, shelfOf}
 use Rattle.tables.specs.declared.tally.Tally.{Tally}
 use Rattle.tables.proofs.Ranges.{bounded}
-use Rattle.weighing.specs.Weighing.{AllLawful, Summable, Weighable, Balanced, Shelvable}
+use Rattle.weighing.specs.Weighing.{AllLawful, Weighable, Balanced, Shelvable}
 use Rattle.weighing.proofs.Adding.{sum-same}
 
 -- files that are lawful can be weighed
@@ -19,20 +19,13 @@ pub weighable : (a : Tally) (t : Tables) → Shelvable a t → AllLawful (a .set
 weighable a t h w =
     let l = h .long .long in
     record {
-      catalogued = record { long = l .place; few = bounded (a .settings) (h .range) .catalogue .1 };
-      weighed = λ f b. ⊎-elim
-          (λ e. inl e)
-          (λ x. let p = x .0 .inside in inr (record { sized = omega (arith, l .size); priced = omega (arith, l .cost); counted = omega (arith, l .freq); valued = x .1 .fine .valued }))
-          (w f b);
+      summable = record {
+        long = l .place;
+        few = bounded (a .settings) (h .range) .catalogue .1;
+        inside = λ f b. ⊎-elim (λ e. inl e) (λ x. inr (omega (arith, x .0 .inside, l .size), omega (arith, x .0 .inside, l .freq))) (w f b);
+      };
+      valued = λ f b. ⊎-elim (λ e. inl e) (λ x. inr (omega (arith, x .0 .inside, l .cost), x .1 .fine .valued)) (w f b);
     }
-
--- and each of the two tables summed up
-module _ {n : ℕ} {place size cost freq : List ℕ} (a : Weighable n place size cost freq) where
-  pub sizes : Summable n place size
-  sizes = record { catalogued = a .catalogued; inside = λ f b. ⊎-elim (λ e. inl e) (λ w. inr (w .sized)) (a .weighed f b) }
-
-  pub freqs : Summable n place freq
-  freqs = record { catalogued = a .catalogued; inside = λ f b. ⊎-elim (λ e. inl e) (λ w. inr (w .counted)) (a .weighed f b) }
 
 -- the sums do not look at the files of the places, at keys and at stamps
 pub balanced-as : (a : Tally) (t u : Tables) (n : ℕ) → t .place ≡ u .place → t .size ≡ u .size → t .cost ≡ u .cost → t .freq ≡ u .freq → Balanced a (shelfOf n t) → Balanced a (shelfOf n u)

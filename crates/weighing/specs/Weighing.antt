@@ -17,6 +17,7 @@ use Rattle.tables.specs.Tables.{Tables, tables, Long, recordAt, shelfOf}
 use Rattle.tables.specs.Tally.{policyIn, totalsOf}
 use Rattle.tables.specs.Sound.{At}
 use Rattle.tables.specs.declared.tally.Tally.{Tally}
+use Rattle.weighing.specs.declared.sums.Sums.{Sums}
 
 -- the answer is true exactly where P holds
 pub record Exact (P : Type 0) (answer : Bool) : Type 0 where
@@ -60,33 +61,24 @@ Lawful s l n t f =
 abbrev pub AllLawful : Settings → ℕ → ℕ → Tables → Type 0
 AllLawful s l n t = (f : ℕ) → f < s .catalogue .0 → Lawful s l n t f
 
--- ---- The sums over the shelf, which a pass reads by the places of the first n files
+-- ---- The sums over the shelf, which a pass reads by the places of its files
 
--- document 01, "Needed lengths": the places of the first n files can be read
-pub record Catalogued (n : ℕ) (place : List ℕ) : Type 0 where
+-- what the sums ask: each of n files has no place, or one that the tables by place have
+pub record Summable (n : ℕ) (place size freq : List ℕ) : Type 0 where
   pub long : n ≤ length place
   pub few : n ≤ catalogueMost
+  pub inside : (f : ℕ) → f < n → (getD place f 0 ≡ noPlace) ⊎ ((getD place f 0 < length size) × (getD place f 0 < length freq))
 
--- each of the first n files has no place, or one of which P holds
-abbrev pub Placing : (ℕ → Type 0) → ℕ → List ℕ → Type 0
-Placing P n place = (f : ℕ) → f < n → (getD place f 0 ≡ noPlace) ⊎ P (getD place f 0)
-
--- what the sum of a table asks: it has an entry for each place
-pub record Summable (n : ℕ) (place table : List ℕ) : Type 0 where
-  pub catalogued : Catalogued n place
-  pub inside : Placing (λ p. p < length table) n place
-
--- a place has a record with a size and a cost in force
-pub record Weighed (size cost freq : List ℕ) (p : ℕ) : Type 0 where
-  pub sized : p < length size
-  pub priced : p < length cost
-  pub counted : p < length freq
-  pub valued : Valued (getD size p 0) (getD cost p 0)
-
--- what the sum of the products asks, beside frequencies that are few
+-- and the sum of the products besides: a size and a cost in force there
 pub record Weighable (n : ℕ) (place size cost freq : List ℕ) : Type 0 where
-  pub catalogued : Catalogued n place
-  pub weighed : Placing (Weighed size cost freq) n place
+  pub summable : Summable n place size freq
+  pub valued : (f : ℕ) → f < n → (getD place f 0 ≡ noPlace) ⊎ ((getD place f 0 < length cost) × Valued (getD size (getD place f 0) 0) (getD cost (getD place f 0) 0))
+
+-- the sums that fit a word whatever the tables hold
+pub record Summed (s : Shelf) (r : Sums) : Type 0 where
+  pub files : r .files ≡ files s
+  pub bytes : r .bytes .0 ≡ bytes s
+  pub freqs : r .freqs ≡ sum (λ k. k .freq) s
 
 -- document 01: the sums over the files against the tally
 pub record Balanced (a : Tally) (s : Shelf) : Type 0 where

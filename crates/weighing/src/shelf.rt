@@ -1,9 +1,7 @@
 // The shelf that the tables stand for: its files and its sums against the tally.
 use crate::files::all_lawful;
-use crate::sums::count_kept;
 use crate::sums::sum_kept;
 use crate::sums::sum_products;
-use amounts::Bytes;
 use amounts::Key;
 use tables::Tally;
 ghost use mathlib.Core.List.{[]};
@@ -18,17 +16,17 @@ fn sums_agree(a: Tally, place: &[u16], size: &[u32], cost: &[u16], freq: &[u32])
     requires { ⌜ a .requests ≤ requestsMost ⌝ }
     ensures { λ r. ⌜ Exact (Balanced a (shelfOf (a .settings .catalogue .0) (tables (now (place .entry)) [] (now (size .entry)) (now (cost .entry)) (now (freq .entry)) [] [] []))) r ⌝ }
 {
-    if count_kept(a.settings.catalogue, place) != a.files_kept {
+    let sums = sum_kept(a.settings.catalogue, place, size, freq);
+    if sums.files != a.files_kept {
         return false;
     }
-    let bytes = Bytes(sum_kept(a.settings.catalogue, place, size));
-    if !bytes.same(a.bytes_kept) {
+    if !sums.bytes.same(a.bytes_kept) {
         return false;
     }
-    if !bytes.at_most(a.settings.capacity) {
+    if !a.bytes_kept.at_most(a.settings.capacity) {
         return false;
     }
-    if a.requests < sum_kept(a.settings.catalogue, place, freq) {
+    if a.requests < sums.freqs {
         return false;
     }
     let most = Key::most(a.requests);

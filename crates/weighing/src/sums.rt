@@ -10,44 +10,43 @@ ghost use mathlib.Core.List.{[]};
 ghost use Prim.Native.Nat.{_≤_};
 ghost use Rattle.amounts.specs.Limits.{requestsMost};
 ghost use Rattle.amounts.specs.Worth.{Valued, productOf};
-ghost use Rattle.method.specs.Shelf.{sum, bytes, files};
+ghost use Rattle.method.specs.Shelf.{sum};
 ghost use Rattle.method.specs.Shelf as shelf;
 ghost use Rattle.tables.specs.Tables.{tables, shelfOf};
-ghost use Rattle.weighing.specs.Weighing.{Catalogued, Summable, Weighable};
+ghost use Rattle.weighing.specs.Weighing.{Summable, Weighable, Summed};
 
-// How many of the files have a place.
-pub(crate) fn count_kept(catalogue: Catalogue, place: &[u16]) -> u64
-    requires { ⌜ Catalogued (catalogue .0) (now place) ⌝ }
-    ensures { λ r. ⌜ r ≡ files (shelfOf (catalogue .0) (tables (now (place .entry)) [] [] [] [] [] [] [])) ⌝ }
-{
-    let n = catalogue.count();
-    let mut sum = 0;
-    let mut f = 0;
-    while f < n {
-        if place[f] != Places::NONE {
-            sum += 1;
-        }
-        f += 1;
-    }
-    sum
+// How many files are kept, their sizes and their frequencies together.
+pub(crate) struct Sums {
+    pub files: u64,
+    pub bytes: Bytes,
+    pub freqs: u64,
 }
 
-// What a table by place, sizes or frequencies, holds for the files together: as if it were the sizes.
-pub(crate) fn sum_kept(catalogue: Catalogue, place: &[u16], table: &[u32]) -> u64
-    requires { ⌜ Summable (catalogue .0) (now place) (now table) ⌝ }
-    ensures { λ r. ⌜ r ≡ bytes (shelfOf (catalogue .0) (tables (now (place .entry)) [] (now (table .entry)) [] [] [] [] [])) ⌝ }
+// The sums of the files that have a place.
+pub(crate) fn sum_kept(catalogue: Catalogue, place: &[u16], size: &[u32], freq: &[u32]) -> Sums
+    requires { ⌜ Summable (catalogue .0) (now place) (now size) (now freq) ⌝ }
+    ensures { λ r. ⌜ Summed (shelfOf (catalogue .0) (tables (now (place .entry)) [] (now (size .entry)) [] (now (freq .entry)) [] [] [])) r ⌝ }
 {
     let n = catalogue.count();
-    let mut sum = 0;
+    let mut files = 0;
+    let mut bytes = 0;
+    let mut freqs = 0;
     let mut f = 0;
     while f < n {
         let p = place[f] as usize;
         if p != Places::NONE as usize {
-            sum += table[p] as u64;
+            files += 1;
+            bytes += size[p] as u64;
+            freqs += freq[p] as u64;
         }
         f += 1;
     }
-    sum
+    let bytes = Bytes(bytes);
+    Sums {
+        files: files,
+        bytes: bytes,
+        freqs: freqs,
+    }
 }
 
 // Frequency × worth of a record, from the words of its tables.

@@ -5,10 +5,10 @@ use Prim.Native.Nat.{ℕ, _+_, _≤_, _<_, _-_}
 use native.Mathlib.Omega.{arith}
 use lib.ListN.{length, getD}
 use borrow.Author.Needs.{needs, scaled-fits}
+use Rattle.amounts.specs.Worth.{Valued}
 use Rattle.method.specs.Shelf.{sum, product}
 use Rattle.tables.specs.Tables.{shelfOf}
-use Rattle.weighing.specs.Weighing.{Weighed}
-use Rattle.weighing.proofs.Adding.{weighed, sum-nobody, sum-none, sum-some, at-file, freq-small, sum-small}
+use Rattle.weighing.proofs.Adding.{weighed, sum-nobody, sum-none, sum-some, freq-small, sum-small, placed}
 use Rattle.weighing.proofs.sums.sum_products.Statement.{statement}
 use Rattle.weighing.proofs.sums.sum_products.Tie as tie
 
@@ -43,12 +43,12 @@ inside c = omega (arith, c .before .before .count .ensures, c .loop-test .taken)
 mul-p : tie.Need-mul-p Inv-loop μ-loop
 mul-p c =
     let start = turn→start c in
-    scaled-fits _ (length (start .args .place .now)) 2 (omega (arith, start .pre .0 .catalogued .long, inside c)) (search needs)
+    scaled-fits _ (length (start .args .place .now)) 2 (omega (arith, start .pre .0 .summable .long, inside c)) (search needs)
 
 shared-slice-read-p : tie.Need-shared-slice-read-p Inv-loop μ-loop
 shared-slice-read-p c =
     let turn = c .before in
-    omega (arith, turn→start turn .pre .0 .catalogued .long, inside turn)
+    omega (arith, turn→start turn .pre .0 .summable .long, inside turn)
 
 cast-p : tie.Need-cast-p Inv-loop μ-loop
 cast-p c = omega (arith, c .shared-slice-known5 .given (c .before .before .loop .f))
@@ -56,56 +56,56 @@ cast-p c = omega (arith, c .shared-slice-known5 .given (c .before .before .loop 
 cast-if1 : tie.Need-cast-if1 Inv-loop μ-loop
 cast-if1 c = search needs
 
--- its place has a record that can be weighed
-file : (c : tie.Then1 Inv-loop μ-loop)
-    → let x = turn→start (placed→turn c) .args in
-    Weighed (x .size .now) (x .cost .now) (x .freq .now) (getD (x .place .now) (placed→turn c .before .loop .f) 0)
-file c =
-    let turn = placed→turn c in
-    let start = turn→start turn in
-    at-file _ _ _ _ _ (start .pre .0) (start .pre .1) _ (inside turn) (c .if1 .taken)
+-- its place is one of the tables', with a size and a cost in force
+abbrev at : tie.Then1 Inv-loop μ-loop → ℕ
+at c = let turn = placed→turn c in getD (turn→start turn .args .place .now) (turn .before .loop .f) 0
+
+reach : (c : tie.Then1 Inv-loop μ-loop) → let x = turn→start (placed→turn c) .args in (at c < length (x .size .now)) × (at c < length (x .freq .now))
+reach c = let turn = placed→turn c in placed (c .if1 .taken) (turn→start turn .pre .0 .summable .inside (turn .before .loop .f) (inside turn))
+
+valued : (c : tie.Then1 Inv-loop μ-loop) → let x = turn→start (placed→turn c) .args in (at c < length (x .cost .now)) × Valued (getD (x .size .now) (at c) 0) (getD (x .cost .now) (at c) 0)
+valued c = let turn = placed→turn c in placed (c .if1 .taken) (turn→start turn .pre .0 .valued (turn .before .loop .f) (inside turn))
 
 mul-kept-product : tie.Need-mul-kept-product Inv-loop μ-loop
 mul-kept-product c = omega (arith, c .before .shared-slice-known5 .given (placed→turn c .before .loop .f))
 
 shared-slice-read-kept-product : tie.Need-shared-slice-read-kept-product Inv-loop μ-loop
-shared-slice-read-kept-product c = file (c .before) .sized
+shared-slice-read-kept-product c = reach (c .before) .0
 
 mul-kept-product-2 : tie.Need-mul-kept-product-2 Inv-loop μ-loop
 mul-kept-product-2 c =
-    let placed = c .before in
-    omega (arith, placed .before .shared-slice-known5 .given (placed→turn placed .before .loop .f))
+    let file = c .before in
+    omega (arith, file .before .shared-slice-known5 .given (placed→turn file .before .loop .f))
 
 shared-slice-read-kept-product-2 : tie.Need-shared-slice-read-kept-product-2 Inv-loop μ-loop
-shared-slice-read-kept-product-2 c = file (c .before .before) .priced
+shared-slice-read-kept-product-2 c = valued (c .before .before) .0
 
 mul-kept-product-3 : tie.Need-mul-kept-product-3 Inv-loop μ-loop
 mul-kept-product-3 c =
-    let placed = c .before .before in
-    omega (arith, placed .before .shared-slice-known5 .given (placed→turn placed .before .loop .f))
+    let file = c .before .before in
+    omega (arith, file .before .shared-slice-known5 .given (placed→turn file .before .loop .f))
 
 shared-slice-read-kept-product-3 : tie.Need-shared-slice-read-kept-product-3 Inv-loop μ-loop
-shared-slice-read-kept-product-3 c = file (c .before .before .before) .counted
+shared-slice-read-kept-product-3 c = reach (c .before .before .before) .1
 
 cast-kept-product : tie.Need-cast-kept-product Inv-loop μ-loop
 cast-kept-product c =
-    let turn = placed→turn (c .before .before .before) in
-    omega (arith, c .shared-slice-known8 .given (getD (turn→start turn .args .place .now) (turn .before .loop .f) 0))
+    omega (arith, c .shared-slice-known8 .given (at (c .before .before .before)))
 
 kept-product-requires : tie.Need-kept-product-requires Inv-loop μ-loop
 kept-product-requires c κs =
-    let placed = c .before .before .before in
-    let turn = placed→turn placed in
+    let file = c .before .before .before in
+    let turn = placed→turn file in
     let start = turn→start turn in
-    (file placed .valued, freq-small _ _ _ _ _ (start .pre .0) (start .pre .1) _ (inside turn) (placed .if1 .taken))
+    (valued file .1, freq-small _ _ _ _ _ (start .pre .0) (start .pre .1) _ (inside turn) (file .if1 .taken))
 
 plus-requires : tie.Need-plus-requires Inv-loop μ-loop
 plus-requires c κs =
-    let placed = product→placed c in
-    let turn = placed→turn placed in
+    let file = product→placed c in
+    let turn = placed→turn file in
     let start = turn→start turn in
     let loop = turn .before .loop in
-    omega (arith, sum-small _ _ _ _ _ (start .pre .0) (start .pre .1) (loop .f) (inside turn) (placed .if1 .taken) (loop .inv .1) (c .kept-product .ensures))
+    omega (arith, sum-small _ _ _ _ _ (start .pre .0) (start .pre .1) (loop .f) (inside turn) (file .if1 .taken) (loop .inv .1) (c .kept-product .ensures))
 
 add-f : tie.Need-add-f Inv-loop μ-loop
 add-f c = omega (arith, c .before .before .loop-test .taken)
@@ -120,7 +120,7 @@ loop-again c =
     let start = turn→start turn in
     let x = start .args in
     let t = weighed (x .place .now) (x .size .now) (x .cost .now) (x .freq .now) in
-    let l : loop .f < length (x .place .now) = omega (arith, start .pre .0 .catalogued .long, inside turn) in (
+    let l : loop .f < length (x .place .now) = omega (arith, start .pre .0 .summable .long, inside turn) in (
       omega (arith, turn .loop-test .taken),
       ⊎-elim
           (λ x. sum-some _ t (loop .f) l (loop .inv .1) (x .0 .taken) (ap (λ k. k .0) (x .6) ∙ x .5 .ensures ∙ ap (λ (w : ℕ). loop .sum .0 + w) (x .4 .ensures)))
