@@ -18,13 +18,11 @@ note-entries-requires c κs =
     let fill = c .before .before .before in
     indexable-filled (fill .before .count .ensures) (fill→start fill .pre) (fill .fill16 .ensures)
 
-same-length : tie.Need-same-length
-same-length c = search needs
-
 returns : tie.Need-returns
 returns c =
     let note = c .before .before in
     noted-from (note .note-entries .ensures) (note .before .before .before .entry .given)
 
 pub index-entries-spec : {M : Type 1} → statement M
-index-entries-spec = tie.close (tie.spec count-requires fill16-requires note-entries-requires same-length returns)
+index-entries-spec = tie.close
+    (tie.spec count-requires fill16-requires note-entries-requires (λ c. search needs) returns)

@@ -56,30 +56,6 @@ fill16-requires-4 c κs =
     let stamp = c .before .before .before in
     place→start (file→place (size→file (cost→size (freq→cost (key→freq (stamp→key stamp)))))) .pre .queue
 
-same-length : tie.Need-same-length
-same-length c = search needs
-
-same-length-2 : tie.Need-same-length-2
-same-length-2 c = search needs
-
-same-length-3 : tie.Need-same-length-3
-same-length-3 c = search needs
-
-same-length-4 : tie.Need-same-length-4
-same-length-4 c = search needs
-
-same-length-5 : tie.Need-same-length-5
-same-length-5 c = search needs
-
-same-length-6 : tie.Need-same-length-6
-same-length-6 c = search needs
-
-same-length-7 : tie.Need-same-length-7
-same-length-7 c = search needs
-
-same-length-8 : tie.Need-same-length-8
-same-length-8 c = search needs
-
 returns : tie.Need-returns
 returns c =
     let queue = c .before .before in
@@ -96,5 +72,6 @@ returns c =
 pub clear-all-spec : {M : Type 1} → statement M
 clear-all-spec =
     tie.close
-    (tie.spec fill16-requires fill16-requires-2 fill32-requires fill16-requires-3 fill32-requires-2 fill64-requires fill64-requires-2 fill16-requires-4
-    same-length same-length-2 same-length-3 same-length-4 same-length-5 same-length-6 same-length-7 same-length-8 returns)
+    (tie.spec fill16-requires fill16-requires-2 fill32-requires fill16-requires-3 fill32-requires-2 fill64-requires fill64-requires-2
+    fill16-requires-4 (λ c. search needs) (λ c. search needs) (λ c. search needs) (λ c. search needs) (λ c. search needs) (λ c. search needs)
+    (λ c. search needs) (λ c. search needs) returns)

@@ -67,27 +67,6 @@ new-requires c κs = search needs
 same-length : tie.Need-same-length
 same-length c = let x = new→place c .place .given in search needs
 
-same-length-2 : tie.Need-same-length-2
-same-length-2 c = search needs
-
-same-length-3 : tie.Need-same-length-3
-same-length-3 c = search needs
-
-same-length-4 : tie.Need-same-length-4
-same-length-4 c = search needs
-
-same-length-5 : tie.Need-same-length-5
-same-length-5 c = search needs
-
-same-length-6 : tie.Need-same-length-6
-same-length-6 c = search needs
-
-same-length-7 : tie.Need-same-length-7
-same-length-7 c = search needs
-
-same-length-8 : tie.Need-same-length-8
-same-length-8 c = search needs
-
 returns-3 : tie.Need-returns-3
 returns-3 c =
     let clear = new→place c .before in
@@ -104,5 +83,6 @@ returns-3 c =
 pub fresh-spec : {M : Type 1} → statement M
 fresh-spec =
     tie.close
-    (tie.spec in-range-requires returns count-requires count-requires-2 long-enough-requires returns-2 clear-all-requires new-requires
-    same-length same-length-2 same-length-3 same-length-4 same-length-5 same-length-6 same-length-7 same-length-8 returns-3)
+    (tie.spec in-range-requires returns count-requires count-requires-2 long-enough-requires returns-2 clear-all-requires new-requires same-length
+    (λ c. search needs) (λ c. search needs) (λ c. search needs) (λ c. search needs) (λ c. search needs) (λ c. search needs) (λ c. search needs)
+    returns-3)
