@@ -110,8 +110,7 @@ module _ (a : Tally) (t : Tables) where
 
     pub sound-own : (entry : List ℕ) → Index s n t entry → Sound a t → Own (t .queue) (t .stamp) n
     sound-own entry x h i j l m e =
-        let o = x .entries i l in
-        let u = x .entries j m in
+        let o = x .entries i l in let u = x .entries j m in
         let d = h .shelf .apart _ _ _ _ (slot-at o) (slot-at u) e in
         distinct (t .queue) entry n (x .indexed) i j l m (sym (o .place) ∙ ap (λ (v : ℕ). getD (t .place) v 0) d ∙ u .place)
 

@@ -37,12 +37,9 @@ module _ (p n a b c d e f g h : ℕ) where
   long-nums : longEnough p n a b c d e f g h ≡ true → Nums
   unfolding longEnough
   long-nums q =
-      let q1 = both n a _ q in
-      let q2 = both p b _ (q1 .1) in
-      let q3 = both p c _ (q2 .1) in
-      let q4 = both p d _ (q3 .1) in
-      let q5 = both p e _ (q4 .1) in
-      let q6 = both p f _ (q5 .1) in
+      let q1 = both n a _ q in let q2 = both p b _ (q1 .1) in
+      let q3 = both p c _ (q2 .1) in let q4 = both p d _ (q3 .1) in
+      let q5 = both p e _ (q4 .1) in let q6 = both p f _ (q5 .1) in
       let q7 = both p g _ (q6 .1) in
       (q1 .0, q2 .0, q3 .0, q4 .0, q5 .0, q6 .0, q7 .0, leb-true p h (q7 .1))
 

@@ -22,14 +22,10 @@ pub record Bounded (s : Settings) : Type 0 where
 pub bounded : (s : Settings) → inRange s ≡ true → Bounded s
 unfolding inRange
 bounded s e =
-    let d = isCatalogue (s .catalogue .0) in
-    let c = pick (isPlaces (s .places .0)) d false in
-    let b = pick (isCapacity (s .capacity .0)) c false in
-    let a = pick (isPolicy (s .policy .0)) b false in
-    let p = both (isUnit (s .unit .0)) a e in
-    let q = both (isPolicy (s .policy .0)) b (p .1) in
-    let r = both (isCapacity (s .capacity .0)) c (q .1) in
-    let t = both (isPlaces (s .places .0)) d (r .1) in
+    let d = isCatalogue (s .catalogue .0) in let c = pick (isPlaces (s .places .0)) d false in
+    let b = pick (isCapacity (s .capacity .0)) c false in let a = pick (isPolicy (s .policy .0)) b false in
+    let p = both (isUnit (s .unit .0)) a e in let q = both (isPolicy (s .policy .0)) b (p .1) in
+    let r = both (isCapacity (s .capacity .0)) c (q .1) in let t = both (isPlaces (s .places .0)) d (r .1) in
     record {
       policy = one-to policyMost (s .policy .0) (q .0);
       capacity = one-to capacityMost (s .capacity .0) (r .0);

@@ -103,10 +103,8 @@ returns-5 c =
 
 stack-unused-requires : tie.Need-stack-unused-requires
 stack-unused-requires c κs =
-    let indexed = c .before .before in
-    let index = indexed .before .before .before in
-    let few = index→few index in
-    let x = index .index-entries .ensures in
+    let indexed = c .before .before in let index = indexed .before .before .before in
+    let few = index→few index in let x = index .index-entries .ensures in
     stackable _ (lent (few→start few)) _ _ (few→start few .pre) (kept few) _ (index-all _ (x .yes (not-false _ (indexed .if5 .left)))) (x .long)
 
 same-length-2 : tie.Need-same-length-2
@@ -117,20 +115,15 @@ same-length-3 c = c .before .before .before .stack-unused .ensures .long
 
 returns-6 : tie.Need-returns-6
 returns-6 c =
-    let stack = c .before .before .before in
-    let index = stack→index stack in
-    let few = index→few index in
-    let x = index .index-entries .ensures in
-    let z = stack .stack-unused .ensures in
-    let y = index-all _ (x .yes (not-false _ (stack→indexed stack .if5 .left))) in
+    let stack = c .before .before .before in let index = stack→index stack in
+    let few = index→few index in let x = index .index-entries .ensures in
+    let z = stack .stack-unused .ensures in let y = index-all _ (x .yes (not-false _ (stack→indexed stack .if5 .left))) in
     unsound (λ s. z .exact .no (not-true _ (c .if6 .taken)) (used-requeued _ [] (sound-used _ _ (omega (arith, kept few, places (few→start few))) _ y s))) (x .long) (z .long)
 
 is-ordered-requires : tie.Need-is-ordered-requires
 is-ordered-requires c κs =
-    let stack = stacked→stack c in
-    let few = index→few (stack→index stack) in
-    let j = few→start few .pre in
-    let l = j .long in
+    let stack = stacked→stack c in let few = index→few (stack→index stack) in
+    let j = few→start few .pre in let l = j .long in
     let y = index-all (lent (few→start few)) (stack→index stack .index-entries .ensures .yes (not-false _ (stack→indexed stack .if5 .left))) in
     readable _ _ _ _ j (kept few) _ y _ _ (omega arith) (omega arith)
 
@@ -147,8 +140,7 @@ returns-7 c =
 
 stamps-own-requires : tie.Need-stamps-own-requires
 stamps-own-requires c κs =
-    let stack = stacked→stack (c .before .before) in
-    let few = index→few (stack→index stack) in
+    let stack = stacked→stack (c .before .before) in let few = index→few (stack→index stack) in
     let y = index-all (lent (few→start few)) (stack→index stack .index-entries .ensures .yes (not-false _ (stack→indexed stack .if5 .left))) in
     stamped _ _ _ _ (few→start few .pre) (kept few) _ y
 
@@ -160,18 +152,13 @@ same-length-7 c = stacked→stack (c .before .before .before) .stack-unused .ens
 
 returns-8 : tie.Need-returns-8
 returns-8 c =
-    let ordered = c .before in
-    let stacked = ordered .before .before in
-    let stack = stacked→stack stacked in
-    let index = stack→index stack in
-    let filed = index→filed index in
-    let rested = filed .before .before in
-    let few = filed→few filed in
-    let start = few→start few in
+    let ordered = c .before in let stacked = ordered .before .before in
+    let stack = stacked→stack stacked in let index = stack→index stack in
+    let filed = index→filed index in let rested = filed .before .before in
+    let few = filed→few filed in let start = few→start few in
     let x = index .index-entries .ensures in
     let y = index-all (lent start) (x .yes (not-false _ (stack→indexed stack .if5 .left))) in
-    let z = stack .stack-unused .ensures in
-    let said = not-false _ (stacked .if6 .left) in
+    let z = stack .stack-unused .ensures in let said = not-false _ (stacked .if6 .left) in
     judged (c .stamps-own .ensures)
     (λ own. sound-made _ _ (places start) (start .pre .long .place) (numbers (few→totalled few)) (kept few) _ y (passed (rested .before .rest-zero .ensures) (rested .if3 .left))
     (used-requeued _ _ (z .exact .yes said)) (filed-requeued _ _ (passed (filed .before .shelf-agrees .ensures) (filed .if4 .left)))

@@ -89,14 +89,12 @@ same-length-2 c = used→turn (c .before .before) .before .loop .inv .long
 
 returns-2 : tie.Need-returns-2 Inv-loop μ-loop
 returns-2 c =
-    let at = c .before .before in
-    let turn = used→turn at in
+    let at = c .before .before in let turn = used→turn at in
     noting-twice _ _ _ _ (turn→start turn .pre .0) _ _ (turn .before .loop .inv) (turn .loop-test .taken) (used at) (c .if2 .taken)
 
 cast-entry : tie.Need-cast-entry Inv-loop μ-loop
 cast-entry c =
-    let turn = used→turn (new→used c) in
-    let pre = turn→start turn .pre .0 in
+    let turn = used→turn (new→used c) in let pre = turn→start turn .pre .0 in
     omega (arith, turn .loop-test .taken, pre .few, pre .most)
 
 mul-entry : tie.Need-mul-entry Inv-loop μ-loop
@@ -113,8 +111,7 @@ loop-less c = omega (arith, used→turn (new→used c) .loop-test .taken)
 
 loop-again : tie.Need-loop-again Inv-loop μ-loop
 loop-again c =
-    let at = new→used c in
-    let turn = used→turn at in
+    let at = new→used c in let turn = used→turn at in
     noting-more _ _ _ _ (turn→start turn .pre .0) _ _ (turn .before .loop .inv) (turn .loop-test .taken) (used at) (c .if2 .left)
 
 same-length-3 : tie.Need-same-length-3 Inv-loop μ-loop

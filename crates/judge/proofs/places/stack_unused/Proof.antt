@@ -70,8 +70,7 @@ same-length c = used→turn (c .before .before) .before .loop .inv .long
 
 returns : tie.Need-returns Inv-loop μ-loop
 returns c =
-    let used = c .before .before in
-    let turn = used→turn used in
+    let used = c .before .before in let turn = used→turn used in
     stacking-lost _ _ _ _ (turn→start turn .pre) _ _ _ (turn .before .loop .inv) (inside turn) (occupied-as refl refl (used .before .occupied .ensures .yes (used .if1 .taken))) (c .if2 .taken)
 
 is-zero-requires : tie.Need-is-zero-requires Inv-loop μ-loop
@@ -84,8 +83,7 @@ same-length-2 c = unused→turn (c .before .before) .before .loop .inv .long
 
 returns-2 : tie.Need-returns-2 Inv-loop μ-loop
 returns-2 c =
-    let unused = c .before .before in
-    let turn = unused→turn unused in
+    let unused = c .before .before in let turn = unused→turn unused in
     stacking-dirty _ _ _ _ (turn→start turn .pre) _ _ _ (turn .before .loop .inv) (inside turn)
     (λ o. unused .before .occupied .ensures .no (unused .if1 .left) (occupied-as refl refl o)) (λ z. failed (c .before .is-zero .ensures) (c .if3 .taken) (zero-as z))
 
@@ -115,10 +113,8 @@ loop-less c = omega (arith, c .before .before .loop-test .taken)
 
 loop-again : tie.Need-loop-again Inv-loop μ-loop
 loop-again c =
-    let found = c .before .occupied .ensures in
-    let turn = c .before .before in
-    let g = turn .before .loop .inv in
-    let pre = turn→start turn .pre in
+    let found = c .before .occupied .ensures in let turn = c .before .before in
+    let g = turn .before .loop .inv in let pre = turn→start turn .pre in
     ⊎-elim
     (λ x. stacking-as _ _ _ _ (x .3) (x .4) (stacking-used _ _ _ _ pre _ _ _ g (inside turn) (occupied-as refl refl (found .yes (x .0 .taken))) (x .2 .left)))
     (λ x. stacking-as _ _ _ _ (x .3) (x .4)

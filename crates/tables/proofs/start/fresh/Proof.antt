@@ -69,10 +69,8 @@ same-length c = let x = new→place c .place .given in search needs
 
 returns-3 : tie.Need-returns-3
 returns-3 c =
-    let clear = new→place c .before in
-    let enough = cleared→enough clear in
-    let test = enough .before in
-    let ranged = measured→ranged test in
+    let clear = new→place c .before in let enough = cleared→enough clear in
+    let test = enough .before in let ranged = measured→ranged test in
     let t = lent (ranged→start ranged) in
     let z = fresh-0 _ _ (allowed (ranged .before .in-range .ensures) (ranged .if1 .left)) (allowed (measured test) (enough .if2 .left)) in
     record {

@@ -30,14 +30,12 @@ loop-holds c = λ k l. absurd (omega arith)
 
 is-lawful-requires : tie.Need-is-lawful-requires Inv-loop μ-loop
 is-lawful-requires c κs =
-    let count = loop→count (c .before) in
-    let pre = count→start count .pre in
+    let count = loop→count (c .before) in let pre = count→start count .pre in
     (pre .0, (omega (arith, count .count .ensures, c .loop-test .taken), pre .1))
 
 returns : tie.Need-returns Inv-loop μ-loop
 returns c =
-    let turn = c .before .before in
-    let count = loop→count (turn .before) in
+    let turn = c .before .before in let count = loop→count (turn .before) in
     answer-no (λ h. failed (c .before .is-lawful .ensures) (c .if1 .taken) (h _ (omega (arith, count .count .ensures, turn .loop-test .taken))))
 
 add-f : tie.Need-add-f Inv-loop μ-loop

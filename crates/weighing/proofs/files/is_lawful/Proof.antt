@@ -49,8 +49,7 @@ count-requires c κs = search needs
 
 returns-2 : tie.Need-returns-2
 returns-2 c =
-    let placed = c .before .before in
-    let start = placed→start placed in
+    let placed = c .before .before in let start = placed→start placed in
     let x = start .args in
     answer-no (lawful-place (x .settings) (x .inflation .0) (x .requests) (lent start) (x .f) (placed .if1 .left) (omega (arith, c .before .count .ensures, c .if2 .taken)))
 
@@ -67,8 +66,7 @@ cast-if3 c =
 
 returns-3 : tie.Need-returns-3
 returns-3 c =
-    let placed = inside→placed (c .before .before) in
-    let start = placed→start placed in
+    let placed = inside→placed (c .before .before) in let start = placed→start placed in
     let x = start .args in
     answer-no (lawful-file (x .settings) (x .inflation .0) (x .requests) (lent start) (x .f) (placed .if1 .left) (c .if3 .taken))
 
@@ -107,10 +105,8 @@ is-right-requires c κs = search needs
 
 returns-4 : tie.Need-returns-4
 returns-4 c =
-    let back = right→back c in
-    let inside = back→inside back in
-    let placed = inside→placed inside in
-    let start = placed→start placed in
+    let back = right→back c in let inside = back→inside back in
+    let placed = inside→placed inside in let start = placed→start placed in
     let x = start .args in
     lawful-as (x .settings) (x .inflation .0) (x .requests) (lent start) (x .f) (placed .if1 .left) (start .pre .1 .0)
     (omega (arith, inside .before .count .ensures, inside .if2 .left)) (back .if3 .left) (c .is-right .ensures)

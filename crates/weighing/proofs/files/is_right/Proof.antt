@@ -61,8 +61,7 @@ at-most-requires-2 c κs = search needs
 
 returns-8 : tie.Need-returns-8
 returns-8 c =
-    let product = c .before .before in
-    let least = product .before in
+    let product = c .before .before in let least = product .before in
     let once : tie.Else5 = search in
     let priced : tie.Else2 = search in
     right-last (record { valued = valued priced; freq = omega arith; once = passed (once .before .is-once .ensures) (once .if5 .left) })

@@ -74,14 +74,12 @@ at-most-requires-2 c κs = search needs
 
 returns-5 : tie.Need-returns-5
 returns-5 c =
-    let most = c .before .before in
-    let a = sums→start (freqs→sums (most .before)) .args .a in
+    let most = c .before .before in let a = sums→start (freqs→sums (most .before)) .args .a in
     answer-denied (c .before .at-most2 .ensures) (c .if5 .taken) (λ s. le-leb (a .inflation .0) (most .most .result .0) (omega (arith, s .total, most .most .ensures)))
 
 sum-products-requires : tie.Need-sum-products-requires
 sum-products-requires c κs =
-    let freqs = least→freqs c in
-    let pre = sums→start (freqs→sums freqs) .pre in
+    let freqs = least→freqs c in let pre = sums→start (freqs→sums freqs) .pre in
     (pre .0, omega (arith, freqs .if4 .left, summed (freqs→sums freqs) .freqs, pre .1))
 
 minus-requires : tie.Need-minus-requires
@@ -94,12 +92,9 @@ at-most-requires-3 c κs = search needs
 
 returns-6 : tie.Need-returns-6
 returns-6 c =
-    let products = c .before .before in
-    let least = products .before in
-    let freqs = least→freqs least in
-    let fits = freqs→fits freqs in
-    let bytes = fits→bytes fits in
-    let files = bytes→files bytes in
+    let products = c .before .before in let least = products .before in
+    let freqs = least→freqs least in let fits = freqs→fits freqs in
+    let bytes = fits→bytes fits in let files = bytes→files bytes in
     balanced-last _ _ (summed (files→sums files)) (files .if1 .left) (allowed (bytes .before .same .ensures) (bytes .if2 .left))
     (allowed (fits .before .at-most .ensures) (fits .if3 .left)) (freqs .if4 .left) (least .before .before .most .ensures)
     (allowed (least .before .at-most2 .ensures) (least .if5 .left)) (c .before .minus .ensures) (products .sum-products .ensures) (c .at-most3 .ensures)

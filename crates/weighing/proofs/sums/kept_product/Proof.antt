@@ -21,8 +21,7 @@ product-requires c κs =
 
 returns : tie.Need-returns
 returns c =
-    let asked = c .before in
-    let size = asked .before in
+    let asked = c .before in let size = asked .before in
     c .product .ensures ∙ (λ i. productOf (size .before .args .freq) (size .size .ensures i) (asked .asked .ensures i))
 
 pub kept-product-spec : {M : Type 1} → statement M

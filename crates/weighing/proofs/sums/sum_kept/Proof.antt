@@ -92,8 +92,7 @@ loop-less c = omega arith
 
 loop-again : tie.Need-loop-again Inv-loop μ-loop
 loop-again c =
-    let turn = c .before .before in
-    let loop = turn .before .loop in
+    let turn = c .before .before in let loop = turn .before .loop in
     let place = turn→start turn .args .place .now in
     let l : loop .f < length place = omega (arith, turn→start turn .pre .long, inside turn) in
     let p = getD place (loop .f) 0 in (

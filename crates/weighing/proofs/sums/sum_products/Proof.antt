@@ -94,17 +94,14 @@ cast-kept-product c =
 
 kept-product-requires : tie.Need-kept-product-requires Inv-loop μ-loop
 kept-product-requires c κs =
-    let file = c .before .before .before in
-    let turn = placed→turn file in
+    let file = c .before .before .before in let turn = placed→turn file in
     let start = turn→start turn in
     (valued file .1, freq-small _ _ _ _ _ (start .pre .0) (start .pre .1) _ (inside turn) (file .if1 .taken))
 
 plus-requires : tie.Need-plus-requires Inv-loop μ-loop
 plus-requires c κs =
-    let file = product→placed c in
-    let turn = placed→turn file in
-    let start = turn→start turn in
-    let loop = turn .before .loop in
+    let file = product→placed c in let turn = placed→turn file in
+    let start = turn→start turn in let loop = turn .before .loop in
     omega (arith, sum-small _ _ _ _ _ (start .pre .0) (start .pre .1) (loop .f) (inside turn) (file .if1 .taken) (loop .inv .1) (c .kept-product .ensures))
 
 add-f : tie.Need-add-f Inv-loop μ-loop
@@ -115,10 +112,8 @@ loop-less c = omega (arith, c .before .before .loop-test .taken)
 
 loop-again : tie.Need-loop-again Inv-loop μ-loop
 loop-again c =
-    let turn = c .before .before in
-    let loop = turn .before .loop in
-    let start = turn→start turn in
-    let x = start .args in
+    let turn = c .before .before in let loop = turn .before .loop in
+    let start = turn→start turn in let x = start .args in
     let t = weighed (x .place .now) (x .size .now) (x .cost .now) (x .freq .now) in
     let l : loop .f < length (x .place .now) = omega (arith, start .pre .0 .summable .long, inside turn) in (
       omega (arith, turn .loop-test .taken),
@@ -130,8 +125,7 @@ loop-again c =
 
 returns : tie.Need-returns Inv-loop μ-loop
 returns c =
-    let loop = c .before .loop in
-    let x = loop→start (c .before) .args in
+    let loop = c .before .loop in let x = loop→start (c .before) .args in
     let e : loop .f ≡ x .catalogue .0 = omega (arith, c .before .before .count .ensures, c .loop-test .left, loop .inv .0) in
     loop .inv .1 ∙ ap (λ (k : ℕ). sum product (shelfOf k (weighed (x .place .now) (x .size .now) (x .cost .now) (x .freq .now)))) e
 

@@ -23,8 +23,7 @@ is-total-of-requires-2 c κs = search needs
 
 returns-3 : tie.Need-returns-3
 returns-3 c =
-    let within = c .before in
-    let hit = within .before .before in
+    let within = c .before in let hit = within .before .before in
     amount-last (allowed (hit .before .is-total-of .ensures) (hit .if1 .left)) (allowed (within .before .at-most .ensures) (within .if2 .left)) (c .is-total-of2 .ensures)
 
 pub cost-agrees-spec : {M : Type 1} → statement M
