@@ -1,7 +1,7 @@
 -- Sheets of document 01, computed from the definitions. Assumes nothing.
 use Prim.Native.Nat.{ℕ}
 use mathlib.Core.Path.{_≡_, refl}
-use mathlib.Core.List.{List, _∷_, _++_}
+use mathlib.Core.List.{List, [], _∷_, _++_}
 use Rattle.amounts.specs.Limits.{oneTo}
 use Rattle.amounts.specs.Worth.{worthOf, productOf, packets, inForce}
 use Rattle.amounts.specs.Order.{lowerOf}

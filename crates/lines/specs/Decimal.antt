@@ -1,6 +1,6 @@
 -- Numbers in decimal, as ASCII bytes (document 01, "The sheet"). Assumes nothing.
 use Prim.Native.Nat.{ℕ, zero, suc, _+_, _/_, _%_}
-use mathlib.Core.List.{List, _∷_, _++_}
+use mathlib.Core.List.{List, [], _∷_, _++_}
 use lib.Dec.{ltb}
 use Rattle.amounts.specs.Limits.{pick}
 

@@ -1,6 +1,6 @@
 -- The lines of the sheet (document 01, "The sheet"). Assumes nothing.
 use Prim.Native.Nat.{ℕ, _/_, _%_}
-use mathlib.Core.List.{List, _∷_, _++_}
+use mathlib.Core.List.{List, [], _∷_, _++_}
 use lib.Dec.{eqb}
 use Rattle.amounts.specs.Limits.{pick, catalogueMost}
 use Rattle.tables.specs.declared.tally.Tally.{Tally}

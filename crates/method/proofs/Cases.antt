@@ -1,4 +1,5 @@
 -- One request by cases: whatever holds of a hit, of a pass and of each policy's admission holds of the step. Assumes nothing.
+use mathlib.Core.List.{[]}
 use mathlib.Core.Path.{_≡_, refl}
 use mathlib.Core.Bool.{Bool, true, false}
 use Prim.Native.Nat.{ℕ, _≤_}

@@ -1,6 +1,6 @@
 -- The plain method: no inflation, and each eviction subtracts the lowest credit from every credit (document 01, "Credit"; document 001, section 3). `key` is the credit. Assumes nothing.
 use mathlib.Core.Bool.{Bool, true, false}
-use mathlib.Core.List.{List, _∷_, map}
+use mathlib.Core.List.{List, [], _∷_, map}
 use Prim.Native.Nat.{ℕ, zero, suc, _-_}
 use lib.Dec.{ltb}
 use lib.ListN.{length, getD, set, replicate}

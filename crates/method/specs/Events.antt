@@ -1,5 +1,5 @@
 -- The event list (document 01, "Event list"). Assumes nothing.
-use mathlib.Core.List.{List, _∷_, _++_, map}
+use mathlib.Core.List.{List, [], _∷_, _++_, map}
 use Prim.Native.Nat.{ℕ, _+_, _*_}
 use Rattle.amounts.specs.Limits.{catalogueMost}
 use Rattle.amounts.specs.Requests.{Request}

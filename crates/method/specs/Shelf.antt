@@ -1,7 +1,7 @@
 -- The shelf: what a run keeps, its sums and its lowest file (document 01, "The run"). Assumes nothing.
 use mathlib.Core.Path.{_≡_}
 use mathlib.Core.Bool.{false}
-use mathlib.Core.List.{List, _∷_}
+use mathlib.Core.List.{List, [], _∷_}
 use Prim.Native.Nat.{ℕ, suc, _+_, _≤_}
 use lib.ListN.{getD}
 use Rattle.amounts.specs.Limits.{pick}

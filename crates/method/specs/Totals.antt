@@ -1,6 +1,6 @@
 -- The totals of a tally, from the replies (document 01, "Tables and the tally"). Assumes nothing.
 use mathlib.Core.Path.{_≡_}
-use mathlib.Core.List.{List, _∷_}
+use mathlib.Core.List.{List, [], _∷_}
 use Prim.Native.Nat.{ℕ, _+_, _*_, _≤_}
 use lib.ListN.{length}
 use Rattle.amounts.specs.Limits.{sizeMost, costMost}

@@ -1,7 +1,7 @@
 -- Demands 2 and 3 over the calls: a fresh start, then runs carried on (document 01, "How much each promise says"). Assumes nothing.
 use mathlib.Core.Path.{_≡_}
 use mathlib.Core.Bool.{true}
-use mathlib.Core.List.{List, _++_}
+use mathlib.Core.List.{List, [], _++_}
 use Prim.Native.Nat.{ℕ, _≤_}
 use lib.ListN.{length, take}
 use Rattle.amounts.specs.Limits.{requestsMost}

@@ -1,6 +1,6 @@
 -- The files set aside behind the queue, and the tables with them dropped (document 01, "The run" and "Tables and the tally"). Assumes nothing.
 use mathlib.Core.Path.{_≡_}
-use mathlib.Core.List.{List, _∷_}
+use mathlib.Core.List.{List, [], _∷_}
 use Prim.Native.Nat.{ℕ, zero, suc, _-_, _≤_, _<_}
 use lib.ListN.{length, getD, set}
 use Rattle.amounts.specs.Limits.{noPlace, placesMost}

@@ -1,5 +1,5 @@
 -- The seven tables of records, for the leaves that leave the queue alone. Assumes nothing.
-use mathlib.Core.List.{List}
+use mathlib.Core.List.{List, []}
 use mathlib.Core.Path.{_≡_}
 use Prim.Native.Nat.{ℕ, _<_}
 use lib.ListN.{length, set}

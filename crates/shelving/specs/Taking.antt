@@ -1,6 +1,6 @@
 -- How the run makes room, for both policies: the lowest are set aside while the newcomer does not fit, and none whose key is above a limit. Assumes nothing.
 use mathlib.Core.Bool.{Bool, true, false}
-use mathlib.Core.List.{List, _∷_}
+use mathlib.Core.List.{List, [], _∷_}
 use Prim.Native.Nat.{ℕ, zero, suc}
 use lib.Dec.{ltb}
 use lib.ListN.{set}

@@ -1,6 +1,6 @@
 -- The events of a request as they are written (document 01, "Event list"). Assumes nothing.
 use mathlib.Core.Path.{_≡_}
-use mathlib.Core.List.{List, _∷_}
+use mathlib.Core.List.{List, [], _∷_}
 use Prim.Native.Nat.{ℕ, zero, suc, _+_, _-_, _≤_, _<_}
 use lib.ListN.{length, getD}
 use lib.Seq.{sets}

@@ -1,7 +1,7 @@
 -- Nothing is written on a refusal: where the number in the word is not 0, every lent entry is as it was (docs/BOUNDARY.md). Assumes nothing.
 use mathlib.Core.Path.{_≡_, refl, ap, _∙_}
 use mathlib.Core.Bool.{Bool, true, false}
-use mathlib.Core.List.{List}
+use mathlib.Core.List.{List, []}
 use Prim.Native.Nat.{ℕ, _%_}
 use native.Mathlib.Omega.{arith}
 use Rattle.amounts.specs.Settings.{inRange}

@@ -1,7 +1,7 @@
 -- What a fresh start and a run carried on promise in words (docs/BOUNDARY.md). Assumes nothing.
 use mathlib.Core.Path.{_≡_}
 use mathlib.Core.Bool.{Bool}
-use mathlib.Core.List.{List}
+use mathlib.Core.List.{List, []}
 use Prim.Native.Nat.{ℕ, _%_}
 use lib.Dec.{leb}
 use lib.ListN.{length}

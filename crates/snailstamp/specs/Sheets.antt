@@ -1,6 +1,6 @@
 -- What the sheet promises in words (docs/BOUNDARY.md). Assumes nothing.
 use mathlib.Core.Path.{_≡_}
-use mathlib.Core.List.{List, _∷_}
+use mathlib.Core.List.{List, [], _∷_}
 use Prim.Native.Nat.{ℕ}
 use lib.ListN.{length}
 use Rattle.amounts.specs.Limits.{pick}

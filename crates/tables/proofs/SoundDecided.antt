@@ -1,7 +1,7 @@
 -- Whether a tally and tables are sound can be decided: each condition is bounded, and is one of numbers. Assumes nothing.
 use mathlib.Core.Path.{_≡_, refl, sym, _∙_}
 use mathlib.Core.Logic.{_⊎_, inl}
-use mathlib.Core.List.{List, _∷_}
+use mathlib.Core.List.{List, [], _∷_}
 use Prim.Native.Nat.{ℕ, suc, _+_, _*_, _≤_, _<_}
 use lib.ListN.{length, getD}
 use Rattle.amounts.specs.Limits.{sizeMost, costMost, requestsMost, noPlace}

@@ -1,7 +1,7 @@
 -- A fresh start: the answer in the paper's numbers, and every lent entry afterwards (document 01, "Tables and the tally"). Assumes nothing.
 use mathlib.Core.Path.{_≡_}
 use mathlib.Core.Bool.{Bool}
-use mathlib.Core.List.{List, _∷_}
+use mathlib.Core.List.{List, [], _∷_}
 use Prim.Native.Nat.{ℕ}
 use Rattle.amounts.specs.Limits.{pick}
 use Rattle.amounts.specs.Settings.{inRange}

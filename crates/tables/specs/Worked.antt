@@ -1,5 +1,5 @@
 -- Worked tables that are not empty: one file was asked for, kept, and asked for again (document 01, "Tables and the tally"). Assumes nothing.
-use mathlib.Core.List.{_∷_}
+use mathlib.Core.List.{[], _∷_}
 use Rattle.amounts.specs.Limits.{noPlace}
 use Rattle.amounts.specs.declared.settings.Settings.{Settings}
 use Rattle.tables.specs.Tables.{Tables}

@@ -1,7 +1,7 @@
 -- Writer and reader over each other: what a writer leaves in its buffer reads back, and what a reader gives writes back. Assumes nothing.
 use Prim.Native.Nat.{ℕ, suc, _≤_, min}
 use mathlib.Core.Path.{_≡_, refl, ap, sym, _∙_}
-use mathlib.Core.List.{List, _∷_, _++_}
+use mathlib.Core.List.{List, [], _∷_, _++_}
 use mathlib.Core.Bool.{Bool, true, false}
 use native.Mathlib.Omega.{arith}
 use borrow.Author.Tests.{lt-ltb, ltb-true, le-ltb, le-leb}

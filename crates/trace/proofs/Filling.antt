@@ -1,7 +1,7 @@
 -- The writing pass of the reader at its loop's head. Assumes nothing.
 use Prim.Native.Nat.{ℕ, _+_, _≤_, _<_}
 use mathlib.Core.Path.{_≡_}
-use mathlib.Core.List.{List, _∷_}
+use mathlib.Core.List.{List, [], _∷_}
 use native.Mathlib.Omega.{arith}
 use lib.ListN.{length, drop, set, length-map}
 use Rattle.amounts.specs.Requests.{Request}

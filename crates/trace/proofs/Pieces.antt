@@ -1,7 +1,7 @@
 -- Worked examples of document 01, computed from the definitions. Assumes nothing.
 use Prim.Native.Nat.{ℕ}
 use mathlib.Core.Path.{_≡_, refl}
-use mathlib.Core.List.{List, _∷_}
+use mathlib.Core.List.{List, [], _∷_}
 use Rattle.card.specs.Card.{done, refused}
 use Rattle.amounts.specs.Limits.{oneTo}
 use Rattle.trace.specs.Number.{num, bad, decode}

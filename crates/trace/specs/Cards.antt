@@ -1,6 +1,6 @@
 -- The paper's number and values of each answer (document 01, "Numbers on the red card"). Assumes nothing.
 use Prim.Native.Nat.{ℕ}
-use mathlib.Core.List.{List, _∷_, _++_}
+use mathlib.Core.List.{List, [], _∷_, _++_}
 use lib.ListN.{length}
 use Rattle.amounts.specs.declared.settings.Settings.{Settings}
 use Rattle.card.specs.Card.{Card, done, cardOf}

@@ -1,7 +1,7 @@
 -- What reading bytes to the end means (document 01, "Trace bytes"). Assumes nothing.
 use Prim.Native.Nat.{ℕ, zero, suc}
 use mathlib.Core.Path.{_≡_}
-use mathlib.Core.List.{List, _∷_}
+use mathlib.Core.List.{List, [], _∷_}
 use lib.ListN.{length}
 use lib.Dec.{leb}
 use Rattle.amounts.specs.Limits.{pick, isUnit, isPolicy, isCapacity, isPlaces, isCatalogue, isSize, isCost}

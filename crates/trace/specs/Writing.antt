@@ -1,6 +1,6 @@
 -- What writing requests means (document 01, "Trace bytes"). Assumes nothing.
 use Prim.Native.Nat.{ℕ, suc, min}
-use mathlib.Core.List.{List, _∷_, _++_}
+use mathlib.Core.List.{List, [], _∷_, _++_}
 use lib.ListN.{length}
 use lib.Dec.{leb, ltb}
 use Rattle.amounts.specs.Limits.{pick, isCatalogue}

@@ -29,19 +29,19 @@ pub(crate) fn sum_kept(catalogue: Catalogue, place: &[u16], size: &[u32], freq: 
 {
     let n = catalogue.count();
     let mut files = 0;
-    let mut bytes = 0;
+    let mut bytes = Bytes(0);
     let mut freqs = 0;
     let mut f = 0;
     while f < n {
         let p = place[f] as usize;
         if p != Places::NONE as usize {
             files += 1;
-            bytes += size[p] as u64;
+            let more = Bytes(size[p] as u64);
+            bytes = bytes.plus(more);
             freqs += freq[p] as u64;
         }
         f += 1;
     }
-    let bytes = Bytes(bytes);
     Sums {
         files: files,
         bytes: bytes,

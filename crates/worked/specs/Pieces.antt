@@ -1,6 +1,6 @@
 -- The bench pieces of document 01 that are marked P, as a single statement over one list. Assumes nothing.
 use mathlib.Core.Path.{_≡_, refl}
-use mathlib.Core.List.{List, _∷_, _++_, map}
+use mathlib.Core.List.{List, [], _∷_, _++_, map}
 use Prim.Native.Nat.{ℕ}
 use lib.ListN.{length, replicate}
 use Rattle.amounts.specs.Limits.{oneTo}

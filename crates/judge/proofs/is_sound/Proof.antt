@@ -1,4 +1,5 @@
 -- `judge::is_sound` meets its contract. Assumes nothing.
+use mathlib.Core.List.{[]}
 use mathlib.Core.Path.{refl}
 use Prim.Native.Nat.{_≤_}
 use native.Mathlib.Omega.{arith}

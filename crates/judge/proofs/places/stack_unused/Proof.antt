@@ -1,4 +1,5 @@
 -- `judge::places::stack_unused` meets its contract. Assumes nothing.
+use mathlib.Core.List.{[]}
 use mathlib.Core.Logic.{⊎-elim}
 use mathlib.Core.Path.{refl}
 use Prim.Native.Nat.{_<_, _-_}

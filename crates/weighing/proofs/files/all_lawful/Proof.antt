@@ -1,4 +1,5 @@
 -- `weighing::files::all_lawful` meets its contract. Assumes nothing.
+use mathlib.Core.List.{[]}
 use Prim.Native.Nat.{ℕ, _<_, _-_}
 use native.Mathlib.Omega.{arith}
 use borrow.Author.Count.{below-more}

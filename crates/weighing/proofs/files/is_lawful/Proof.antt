@@ -1,4 +1,5 @@
 -- `weighing::files::is_lawful` meets its contract. Assumes nothing.
+use mathlib.Core.List.{[]}
 use mathlib.Core.Logic.{inl}
 use native.Mathlib.Omega.{arith}
 use borrow.Author.Needs.{needs}

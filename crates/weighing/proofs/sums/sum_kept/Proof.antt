@@ -1,16 +1,17 @@
 -- `weighing::sums::sum_kept` meets its contract. Assumes nothing.
 use mathlib.Core.Logic.{⊎-elim}
-use mathlib.Core.Path.{_≡_}
+use mathlib.Core.Path.{_≡_, ap, _∙_}
 use Prim.Native.Nat.{ℕ, _≤_, _<_, _-_}
 use native.Mathlib.Omega.{arith}
 use lib.ListN.{length, getD}
 use borrow.Author.Needs.{needs, scaled-fits}
+use Rattle.amounts.specs.declared.bytes.Bytes.{Bytes}
 use Rattle.weighing.proofs.Adding.{Summing, summing-start, summing-none, summing-some, summing-done, placed}
 use Rattle.weighing.proofs.sums.sum_kept.Statement.{statement}
 use Rattle.weighing.proofs.sums.sum_kept.Tie as tie
 
 abbrev Inv-loop : tie.InvT-loop
-Inv-loop place size freq n files₀ bytes₀ freqs₀ f₀ files bytes freqs f = (f ≤ n) × Summing place size freq f files bytes freqs
+Inv-loop place size freq n files₀ bytes₀ freqs₀ f₀ files bytes freqs f = (f ≤ n) × Summing place size freq f files (bytes .0) freqs
 
 abbrev μ-loop : tie.MeasureT-loop
 μ-loop place size freq n files₀ bytes₀ freqs₀ f₀ files bytes freqs f = n - f
@@ -54,35 +55,36 @@ cast-if1 c = search needs
 add-files : tie.Need-add-files Inv-loop μ-loop
 add-files c = let turn = placed→turn c in omega (arith, turn→start turn .pre .few, inside turn, turn .before .loop .inv .1 .count-most)
 
-mul-bytes : tie.Need-mul-bytes Inv-loop μ-loop
-mul-bytes c = omega (arith, c .before .shared-slice-known4 .given (placed→turn c .before .loop .f))
+mul-freqs : tie.Need-mul-freqs Inv-loop μ-loop
+mul-freqs c = omega (arith, c .before .shared-slice-known4 .given (placed→turn c .before .loop .f))
 
-shared-slice-read-bytes : tie.Need-shared-slice-read-bytes Inv-loop μ-loop
-shared-slice-read-bytes c = let r = reach (c .before) in search needs
+shared-slice-read-freqs : tie.Need-shared-slice-read-freqs Inv-loop μ-loop
+shared-slice-read-freqs c = let r = reach (c .before) in search needs
 
-cast-bytes : tie.Need-cast-bytes Inv-loop μ-loop
-cast-bytes c = omega (arith, c .shared-slice-known5 .given (at (c .before)))
+cast-freqs : tie.Need-cast-freqs Inv-loop μ-loop
+cast-freqs c = omega (arith, c .shared-slice-known5 .given (at (c .before)))
 
-add-bytes : tie.Need-add-bytes Inv-loop μ-loop
-add-bytes c =
+plus-requires : tie.Need-plus-requires Inv-loop μ-loop
+plus-requires c κs =
     let turn = placed→turn (c .before) in
     omega (arith, turn→start turn .pre .few, inside turn, turn .before .loop .inv .1 .bytes-most, c .shared-slice-known5 .given (at (c .before)))
 
-mul-freqs : tie.Need-mul-freqs Inv-loop μ-loop
-mul-freqs c =
-    let file = c .before in
+mul-freqs-2 : tie.Need-mul-freqs-2 Inv-loop μ-loop
+mul-freqs-2 c =
+    let file = c .before .before in
     omega (arith, file .before .shared-slice-known4 .given (placed→turn file .before .loop .f))
 
-shared-slice-read-freqs : tie.Need-shared-slice-read-freqs Inv-loop μ-loop
-shared-slice-read-freqs c = let r = reach (c .before .before) in search needs
+shared-slice-read-freqs-2 : tie.Need-shared-slice-read-freqs-2 Inv-loop μ-loop
+shared-slice-read-freqs-2 c = let r = reach (c .before .before .before) in search needs
 
-cast-freqs : tie.Need-cast-freqs Inv-loop μ-loop
-cast-freqs c = omega (arith, c .shared-slice-known6 .given (at (c .before .before)))
+cast-freqs-2 : tie.Need-cast-freqs-2 Inv-loop μ-loop
+cast-freqs-2 c = omega (arith, c .shared-slice-known6 .given (at (c .before .before .before)))
 
 add-freqs : tie.Need-add-freqs Inv-loop μ-loop
 add-freqs c =
-    let turn = placed→turn (c .before .before) in
-    omega (arith, turn→start turn .pre .few, inside turn, turn .before .loop .inv .1 .freqs-most, c .shared-slice-known6 .given (at (c .before .before)))
+    let file = c .before .before .before in
+    let turn = placed→turn file in
+    omega (arith, turn→start turn .pre .few, inside turn, turn .before .loop .inv .1 .freqs-most, c .shared-slice-known6 .given (at file))
 
 add-f : tie.Need-add-f Inv-loop μ-loop
 add-f c = omega arith
@@ -98,8 +100,8 @@ loop-again c =
     let p = getD place (loop .f) 0 in (
       omega arith,
       ⊎-elim
-          (λ x. summing-some _ _ _ (loop .inv .1) l (x .0 .taken) (omega (arith, x .1 .given p)) (omega (arith, x .2 .given p)) (x .3) (x .4) (x .5))
-          (λ x. summing-none _ _ _ (loop .inv .1) l (x .0 .left) (x .1) (x .2) (x .3))
+          (λ x. summing-some _ _ _ (loop .inv .1) l (x .0 .taken) (omega (arith, x .1 .given p)) (omega (arith, x .3 .given p)) (x .4) (ap (λ (b : Bytes). b .0) (x .5) ∙ x .2 .ensures) (x .6))
+          (λ x. summing-none _ _ _ (loop .inv .1) l (x .0 .left) (x .1) (ap (λ (b : Bytes). b .0) (x .2)) (x .3))
           (c .if1 .came),
     )
 
@@ -113,5 +115,5 @@ returns c =
 pub sum-kept-spec : {M : Type 1} → statement M
 sum-kept-spec =
     tie.close
-    (tie.spec Inv-loop μ-loop count-requires loop-holds mul-p shared-slice-read-p cast-p cast-if1 add-files mul-bytes shared-slice-read-bytes cast-bytes
-    add-bytes mul-freqs shared-slice-read-freqs cast-freqs add-freqs add-f loop-less loop-again returns)
+    (tie.spec Inv-loop μ-loop count-requires loop-holds mul-p shared-slice-read-p cast-p cast-if1 add-files mul-freqs shared-slice-read-freqs cast-freqs
+    plus-requires mul-freqs-2 shared-slice-read-freqs-2 cast-freqs-2 add-freqs add-f loop-less loop-again returns)
