@@ -27,6 +27,7 @@ use Rattle.weighing.specs.Weighing.{Exact, Numbers, Right, Shelvable, Filed}
 use Rattle.judge.specs.Judge.{Lent}
 use Rattle.judge.specs.Passes.{Indexable, Index, noted, Stackable, Used, Own, Stamped}
 use Rattle.judge.proofs.Stacking.{noted-none, noted-some}
+use Rattle.judge.proofs.Stamping.{own-place}
 use Rattle.judge.proofs.Parts.{occupied-as, entered, requeued}
 
 -- a file's place is occupied where it points back
@@ -146,18 +147,12 @@ module _ (a : Tally) (t : Tables) where
       found : {f p : ℕ} → At s t f p → Found p (t .queue) n
       found {f} {p} o = times-found p (t .queue) n (omega (arith, held-once p (at-occupied o)))
 
-      one-place : (p q : ℕ) → Found p (t .queue) n → Found q (t .queue) n → getD (t .stamp) p 0 ≡ getD (t .stamp) q 0 → p ≡ q
-      one-place p q f g e =
-          let stamp : ℕ → ℕ = λ k. getD (t .stamp) k 0 in
-          let d : f .entry ≡ g .entry = own (f .entry) (g .entry) (f .before) (g .before) (ap stamp (f .is) ∙ e ∙ ap stamp (sym (g .is))) in
-          sym (f .is) ∙ ap (λ (k : ℕ). getD (t .queue) k 0) d ∙ g .is
-
       apart : promise.Apart shelf
       apart i j r q e d h = meet (known i r e) (known j q d)
         where
           meet : Known i r → Known j q → i ≡ j
           meet k m =
-              let p = one-place _ _ (found (k .at)) (found (m .at)) (ap (λ (y : Kept). y .stamp) (k .is) ∙ h ∙ ap (λ (y : Kept). y .stamp) (sym (m .is))) in
+              let p = own-place (t .stamp) own (found (k .at)) (found (m .at)) (ap (λ (y : Kept). y .stamp) (k .is) ∙ h ∙ ap (λ (y : Kept). y .stamp) (sym (m .is))) in
               sym (k .at .file) ∙ ap (λ (y : ℕ). getD (t .file) y 0) p ∙ m .at .file
 
       pub sound-made : Sound a t

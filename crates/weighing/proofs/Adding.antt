@@ -6,6 +6,7 @@ use mathlib.Core.List.{List, [], _∷_, _++_, map}
 use Prim.Native.Nat.{ℕ, zero, suc, _+_, _*_, _≤_, _<_}
 use native.Mathlib.Numerals.{add-one}
 use native.Mathlib.Omega.{arith}
+use native.Mathlib.Nat.{suc-mul}
 use lib.Dec.{eqb}
 use lib.ListN.{length, getD, take}
 use lib.Seq.{take-suc}
@@ -13,7 +14,7 @@ use Rattle.amounts.specs.Limits.{pick, noPlace, requestsMost}
 use Rattle.amounts.specs.Worth.{worthMost}
 use Rattle.amounts.proofs.Tests.{same}
 use Rattle.amounts.proofs.Values.{product-most}
-use Rattle.method.specs.Shelf.{Kept, Slot, none, kept, Shelf, weigh, sum, files, product}
+use Rattle.method.specs.Shelf.{Kept, Slot, none, kept, Shelf, weigh, sum, product}
 use Rattle.tables.specs.Tables.{Tables, tables, recordAt, slotOf, shelfOf}
 use Rattle.tables.proofs.Shelves.{slot-none, slot-kept}
 use Rattle.weighing.specs.Weighing.{Weighable, Summed}
@@ -87,53 +88,22 @@ module _ (f g : Kept → ℕ) (t u : Tables) (like : (p : ℕ) → f (recordAt t
   unfolding shelfOf
   sum-same n e = sum-map (take n (t .place)) ∙ ap (λ (l : List ℕ). sum g (map (slotOf u) (take n l))) e
 
--- ---- files, sizes and frequencies, file by file
+-- ---- a sum file by file, each adding at most so much
 
-module _ (place size freq : List ℕ) where
-  -- the tables that these sums read
-  abbrev pub plain : Tables
-  plain = tables place [] size [] freq [] [] []
+module _ (g : Kept → ℕ) (most : ℕ) (t : Tables) where
+  pub record SumTo (f v : ℕ) : Type 0 where
+    pub is : v ≡ sum g (shelfOf f t)
+    pub small : v ≤ f * most
 
-  -- the sums of the first f files, which are small
-  pub record Summing (f count bytes freqs : ℕ) : Type 0 where
-    pub count-is : count ≡ files (shelfOf f plain)
-    pub bytes-is : bytes ≡ sum (λ k. k .size) (shelfOf f plain)
-    pub freqs-is : freqs ≡ sum (λ k. k .freq) (shelfOf f plain)
-    pub count-most : count ≤ f
-    pub bytes-most : bytes ≤ f * entryMost
-    pub freqs-most : freqs ≤ f * entryMost
+  pub to-nobody : SumTo 0 0
+  to-nobody = record { is = sym (sum-nobody g t); small = omega arith }
 
-  pub summing-start : Summing 0 0 0 0
-  summing-start =
-      let z : (g : Kept → ℕ) → 0 ≡ sum g (shelfOf 0 plain) = λ g. sym (sum-nobody g plain) in
-      record { count-is = z _; bytes-is = z _; freqs-is = z _; count-most = omega arith; bytes-most = omega arith; freqs-most = omega arith }
+  module _ {f v w : ℕ} (s : SumTo f v) (h : f < length (t .place)) where
+    pub to-none : getD (t .place) f 0 ≡ noPlace → w ≡ v → SumTo (f + 1) w
+    to-none e b = record { is = sum-none g t f h (s .is) e b; small = rw add-one (omega (arith, s .small, suc-mul f most)) }
 
-  module _ {f count bytes freqs count′ bytes′ freqs′ : ℕ} (g : Summing f count bytes freqs) (h : f < length place) where
-    pub summing-none : getD place f 0 ≡ noPlace → count′ ≡ count → bytes′ ≡ bytes → freqs′ ≡ freqs → Summing (f + 1) count′ bytes′ freqs′
-    summing-none e a b c = record {
-      count-is = sum-none _ plain f h (g .count-is) e a;
-      bytes-is = sum-none _ plain f h (g .bytes-is) e b;
-      freqs-is = sum-none _ plain f h (g .freqs-is) e c;
-      count-most = omega (arith, g .count-most);
-      bytes-most = omega (arith, g .bytes-most);
-      freqs-most = omega (arith, g .freqs-most);
-    }
-
-    pub summing-some : (getD place f 0 ≡ noPlace → ⊥) → getD size (getD place f 0) 0 ≤ entryMost → getD freq (getD place f 0) 0 ≤ entryMost
-        → count′ ≡ count + 1 → bytes′ ≡ bytes + getD size (getD place f 0) 0 → freqs′ ≡ freqs + getD freq (getD place f 0) 0 → Summing (f + 1) count′ bytes′ freqs′
-    summing-some ne l m a b c = record {
-      count-is = sum-some _ plain f h (g .count-is) ne a;
-      bytes-is = sum-some _ plain f h (g .bytes-is) ne b;
-      freqs-is = sum-some _ plain f h (g .freqs-is) ne c;
-      count-most = omega (arith, g .count-most);
-      bytes-most = omega (arith, g .bytes-most);
-      freqs-most = omega (arith, g .freqs-most);
-    }
-
-  pub summing-done : {n f count bytes freqs : ℕ} → f ≡ n → Summing f count bytes freqs → Summed (shelfOf n plain) (record { files = count; bytes = record { 0 = bytes }; freqs = freqs })
-  summing-done {n} {f} e g =
-      let to : (h : Kept → ℕ) → sum h (shelfOf f plain) ≡ sum h (shelfOf n plain) = λ h. ap (λ (k : ℕ). sum h (shelfOf k plain)) e in
-      record { files = g .count-is ∙ to _; bytes = g .bytes-is ∙ to _; freqs = g .freqs-is ∙ to _ }
+    pub to-some : (getD (t .place) f 0 ≡ noPlace → ⊥) → g (recordAt t (getD (t .place) f 0)) ≤ most → w ≡ v + g (recordAt t (getD (t .place) f 0)) → SumTo (f + 1) w
+    to-some ne l b = record { is = sum-some g t f h (s .is) ne b; small = rw add-one (omega (arith, s .small, suc-mul f most)) }
 
 -- ---- bounds of the products
 

@@ -24,8 +24,8 @@ ranged→start c = c .before .before .before .before .before .before .before .be
 abbrev measured→ranged : tie.After-long-enough → tie.Else1
 measured→ranged c = c .before .before .before
 
-abbrev cleared→enough : tie.After-clear-all → tie.Else2
-cleared→enough c = c .before .before .before .before .before .before .before .before .before
+abbrev lent→enough : tie.After-clear-all-arg8 → tie.Else2
+lent→enough c = c .before .before .before .before .before .before .before .before
 
 abbrev new→place : tie.After-new → tie.After-place
 new→place c = c .before .before .before .before .before .before .before .before .before .before .before .before .before .before .before .before
@@ -58,7 +58,7 @@ returns-2 c =
 
 clear-all-requires : tie.Need-clear-all-requires
 clear-all-requires c κs =
-    let enough = c .before .before .before .before .before .before .before .before in
+    let enough = lent→enough c in
     long-of _ _ _ (allowed (enough .before .long-enough .ensures) (enough .if2 .left))
 
 new-requires : tie.Need-new-requires
@@ -69,7 +69,7 @@ same-length c = let x = new→place c .place .given in search needs
 
 returns-3 : tie.Need-returns-3
 returns-3 c =
-    let clear = new→place c .before in let enough = cleared→enough clear in
+    let clear = new→place c .before in let enough = lent→enough (clear .before) in
     let test = enough .before in let ranged = measured→ranged test in
     let t = lent (ranged→start ranged) in
     let z = fresh-0 _ _ (allowed (ranged .before .in-range .ensures) (ranged .if1 .left)) (allowed (measured test) (enough .if2 .left)) in
