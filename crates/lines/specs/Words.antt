@@ -1,7 +1,7 @@
 -- The words of the sheet, as ASCII bytes (document 01, "The sheet"). Assumes nothing.
 use Prim.Native.Nat.{ℕ}
 use Prim.Native.Char.{code}
-use Prim.Native.String.{String, _∷_ as _∷ˢ_}
+use Prim.Native.String.{String, [] as []ˢ, _∷_ as _∷ˢ_}
 use mathlib.Core.List.{List, [], _∷_}
 
 -- the codes of the characters of a text
