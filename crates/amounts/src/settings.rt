@@ -90,6 +90,13 @@ impl Catalogue {
         one_to(Catalogue::MOST, n)
     }
 
+    // Whether the catalogue is in its range.
+    pub fn in_range(self) -> bool
+        ensures { λ r. ⌜ r ≡ isCatalogue (self .0) ⌝ }
+    {
+        Catalogue::is_catalogue(self.0)
+    }
+
     // The catalogue as the length of a table.
     pub fn count(self) -> usize
         ensures { λ r. ⌜ r ≡ self .0 ⌝ }

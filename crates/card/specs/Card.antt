@@ -1,9 +1,9 @@
--- The red card: the number and the values that document 01, "Numbers on the red card", gives for each case. Assumes nothing.
+-- The red card: the number and the values that document 01, "Numbers on the red card", and the tickets of document 02 give for each case. Assumes nothing.
 use Prim.Native.Nat.{ℕ}
 use mathlib.Core.List.{List, [], _∷_}
 use lib.ListN.{getD}
 use Rattle.card.specs.declared.Refusal.{Refusal}
-use Rattle.card.specs.declared.Refusal.the-variants.{Setting, Short, Form, Range, TooMany, Room, Unsound, OtherUnit, TooLong}
+use Rattle.card.specs.declared.Refusal.the-variants.{Setting, Short, Form, Range, TooMany, Room, Unsound, OtherUnit, TooLong, Line}
 
 -- what a call gives back, in the paper's numbers
 pub record Card : Type 0 where
@@ -28,6 +28,7 @@ cardOf Room = refused 6 []
 cardOf Unsound = refused 7 []
 cardOf OtherUnit = refused 8 []
 cardOf TooLong = refused 9 []
+cardOf (Line at) = refused 10 (at ∷ [])
 
 -- the one value of a refusal, 0 where the paper says "number only"
 abbrev pub valueOf : Card → ℕ

@@ -1,4 +1,4 @@
-// The red card: why a call refuses, with what it returns then (document 01, "Numbers on the red card").
+// The red card: why a call refuses, with what it returns then (documents 01 and 02, "Numbers on the red card" and the tickets' refusals).
 ghost use mathlib.Core.Path.{_≡_};
 ghost use Rattle.card.specs.Card.{cardOf, valueOf};
 
@@ -21,6 +21,8 @@ pub enum Refusal {
     OtherUnit,
     // The program was given more input than it takes.
     TooLong,
+    // A line of a log lacks a field, or counts and has a bad number or range: its number, from 1.
+    Line(usize),
 }
 
 impl Refusal {
@@ -38,16 +40,18 @@ impl Refusal {
             Refusal::Unsound => 7,
             Refusal::OtherUnit => 8,
             Refusal::TooLong => 9,
+            Refusal::Line(_) => 10,
         }
     }
 
-    // What goes with the number: an offset or an index, else 0.
+    // What goes with the number: an offset, an index or a line, else 0.
     pub fn value(self) -> usize
         ensures { λ r. ⌜ r ≡ valueOf (cardOf self) ⌝ }
     {
         match self {
             Refusal::Form(at) => at,
             Refusal::Range(at) => at,
+            Refusal::Line(at) => at,
             Refusal::Setting => 0,
             Refusal::Short => 0,
             Refusal::TooMany => 0,

@@ -20,17 +20,17 @@ use Rattle.trace.specs.declared.answer.Answer.{Answer}
 use Rattle.trace.specs.declared.answer.Answer.the-variants.{Done, Refused}
 use Rattle.trace.proofs.Laying.{laid-over, laid-then}
 
-wrote-stop : (p : Put) (o : List ℕ) (r : Refusal) → p ≡ stop r → Wrote p o (Refused r) o
+pub wrote-stop : (p : Put) (o : List ℕ) (r : Refusal) → p ≡ stop r → Wrote p o (Refused r) o
 wrote-stop p o r e = record { answer = rw e; buffer = rw e }
 
-wrote-bytes : (p : Put) (bs o o′ : List ℕ) (n : ℕ) → p ≡ bytes bs → n ≡ length bs → o′ ≡ over bs o → Wrote p o (Done n) o′
+pub wrote-bytes : (p : Put) (bs o o′ : List ℕ) (n : ℕ) → p ≡ bytes bs → n ≡ length bs → o′ ≡ over bs o → Wrote p o (Done n) o′
 wrote-bytes p bs o o′ n e h b = record { answer = rw (e, h); buffer = rw e b }
 
-sized-stop : (p : Put) (r : Refusal) → Refused r ≡ sized p → p ≡ stop r
+pub sized-stop : (p : Put) (r : Refusal) → Refused r ≡ sized p → p ≡ stop r
 sized-stop (bytes bs) r e = let z : _≡_ {A = ℕ} 0 1 = cc in absurd (omega arith)
 sized-stop (stop a) r e = cc
 
-sized-bytes : (p : Put) (n : ℕ) → Done n ≡ sized p → (bs : List ℕ) × ((p ≡ bytes bs) × (n ≡ length bs))
+pub sized-bytes : (p : Put) (n : ℕ) → Done n ≡ sized p → (bs : List ℕ) × ((p ≡ bytes bs) × (n ≡ length bs))
 sized-bytes (bytes bs) n e = (bs, (refl, cc))
 sized-bytes (stop a) n e = let z : _≡_ {A = ℕ} 0 1 = cc in absurd (omega arith)
 

@@ -82,7 +82,7 @@ read-file-one trace f s d r f₁ s₁ d₁ r′ f₂ s₂ d₂ p q =
     let o = over-one _ f s d f₁ s₁ d₁ f₂ s₂ d₂ (p .lists) (q .lists) in
     (file-answer-one r r′ (p .answer ∙ sym (q .answer)), o .0, o .1, o .2)
 
-wrote-one : (p : Put) (o : List ℕ) (r : Answer) (o₁ : List ℕ) (r′ : Answer) (o₂ : List ℕ) → Wrote p o r o₁ → Wrote p o r′ o₂ → (r ≡ r′) × (o₁ ≡ o₂)
+pub wrote-one : (p : Put) (o : List ℕ) (r : Answer) (o₁ : List ℕ) (r′ : Answer) (o₂ : List ℕ) → Wrote p o r o₁ → Wrote p o r′ o₂ → (r ≡ r′) × (o₁ ≡ o₂)
 wrote-one p o r o₁ r′ o₂ h k = (answer-one r r′ (h .answer ∙ sym (k .answer)), h .buffer ∙ sym (k .buffer))
 
 -- `write_part`

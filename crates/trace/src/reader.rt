@@ -179,7 +179,7 @@ pub fn read_part(
 ) -> Answer
     ensures { λ r. ⌜ ReadPart (catalogue .0) (now (part .entry)) (now (files .entry)) (now (sizes .entry)) (now (costs .entry)) r (now (files .exit)) (now (sizes .exit)) (now (costs .exit)) ⌝ }
 {
-    if !Catalogue::is_catalogue(catalogue.0) {
+    if !catalogue.in_range() {
         return Answer::Refused(Refusal::Setting);
     }
     read_from(part, catalogue, 0, files, sizes, costs)

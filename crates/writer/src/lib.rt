@@ -2,5 +2,9 @@
 mod lists;
 mod number;
 
+pub use lists::put_request;
+pub use lists::put_settings;
+pub use lists::request_width;
+pub use lists::settings_width;
 pub use lists::write_file;
 pub use lists::write_part;
