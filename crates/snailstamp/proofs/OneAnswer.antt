@@ -25,6 +25,7 @@ use Rattle.replay.proofs.OneAnswer.{carry-on-one-answer}
 use Rattle.words.specs.Words.{answerWord, tallyWords, tallyIn}
 use Rattle.words.proofs.Wording.{number-small, number-in, tally-over}
 use Rattle.snailstamp.specs.Run.{FreshWords, carriedWords, CarriedOn, worded, WordsSettle, CarriedWords, AlikeWords}
+use Rattle.snailstamp.specs.Logs.{SquidFileWords, SquidPartWords}
 use Rattle.snailstamp.specs.Sheets.{SheetWords}
 use Rattle.snailstamp.specs.Traces.{ReadFileWords, ReadPartWords, WroteWords, WroteFileWords, WrotePartWords}
 use Rattle.snailstamp.proofs.Refusing.{carry-still}
@@ -124,6 +125,14 @@ write-file-one st f s d o r₁ r₂ o₁ o₂ h k = wrote-one _ o r₁ r₂ o₁
 -- `snailstamp_write_part`
 pub write-part-one : (c : ℕ) (f s d o : List ℕ) (r₁ r₂ : ℕ) (o₁ o₂ : List ℕ) → WrotePartWords c f s d o r₁ o₁ → WrotePartWords c f s d o r₂ o₂ → (r₁ ≡ r₂) × (o₁ ≡ o₂)
 write-part-one c f s d o r₁ r₂ o₁ o₂ h k = wrote-one _ o r₁ r₂ o₁ o₂ h k
+
+-- `snailstamp_squid_file`
+pub squid-file-one : (st : Settings) (log o : List ℕ) (r₁ r₂ : ℕ) (o₁ o₂ : List ℕ) → SquidFileWords st log o r₁ o₁ → SquidFileWords st log o r₂ o₂ → (r₁ ≡ r₂) × (o₁ ≡ o₂)
+squid-file-one st log o r₁ r₂ o₁ o₂ h k = wrote-one _ o r₁ r₂ o₁ o₂ h k
+
+-- `snailstamp_squid_part`
+pub squid-part-one : (c : ℕ) (log o : List ℕ) (r₁ r₂ : ℕ) (o₁ o₂ : List ℕ) → SquidPartWords c log o r₁ o₁ → SquidPartWords c log o r₂ o₂ → (r₁ ≡ r₂) × (o₁ ≡ o₂)
+squid-part-one c log o r₁ r₂ o₁ o₂ h k = wrote-one _ o r₁ r₂ o₁ o₂ h k
 
 -- `snailstamp_sheet`
 pub sheet-one : (trace o : List ℕ) (r₁ r₂ : ℕ) (o₁ o₂ : List ℕ) → SheetWords trace o r₁ o₁ → SheetWords trace o r₂ o₂ → (r₁ ≡ r₂) × (o₁ ≡ o₂)

@@ -1,4 +1,5 @@
 // What C, Rust and Python link: numbers and lent slices in, one word out, and no rule of its own.
+mod logs;
 mod run;
 mod sheets;
 mod traces;

@@ -1,0 +1,10 @@
+-- The laws of reading a log.
+pub mod Ends
+pub mod Walking
+pub mod Spelling
+pub mod Parting
+pub mod Entering
+pub mod Passing
+pub mod Answering
+pub mod OneAnswer
+pub mod RoundTrip
