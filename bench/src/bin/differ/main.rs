@@ -29,9 +29,9 @@ type Verdict = Result<Vec<Answer>, String>;
 /// A kind of case, the numbers of the red card that its calls must reach (0 is done), and by how much fewer of it are run.
 ///
 /// The numbers are those of the lists of documents 01 and 02 and of the boundary's orders of refusals that the kind is
-/// made for: 1 and 2 for a fresh start, 1, 2, 8, 7, 3, 4, 5 and 6 for carrying on, 1, 3, 4 and 6 for the reader, 1, 2, 4
-/// and 6 for the writer, 9, 1, 2, 3 and 4 on a sheet, 1, 10 and 6 for a Squid log. A kind that misses one of them tests
-/// less than it says, and the run fails.
+/// made for: 1 and 2 for a fresh start, 1, 2, 8, 7, 3, 4, 5 and 6 for carrying on, 1, 3, 4 and 6 for the reader, 1, 2,
+/// 4 and 6 for the writer, 9, 1, 2, 3 and 4 on a sheet, 1, 10 and 6 for a Squid log. A kind that misses one of them
+/// tests less than it says, and the run fails.
 struct Kind {
     name: &'static str,
     case: fn(&mut Random) -> Verdict,

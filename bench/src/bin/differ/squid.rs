@@ -198,8 +198,8 @@ fn damage(random: &mut Random, log: &mut Vec<u8>) {
         4 => log.truncate(at),
         5 => drop(log.drain(..at)),
         6 => {
-            if let Some(end) = log.iter().position(|&byte| byte == b'\n') {
-                log[end] = random.pick(b" x\r");
+            if let Some(end) = log[at..].iter().position(|&byte| byte == b'\n') {
+                log[at + end] = random.pick(b" x\r");
             }
         }
         _ => {
