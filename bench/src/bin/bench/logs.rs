@@ -10,11 +10,14 @@ const SAMPLE: &[u8] = include_bytes!("../../../../samples/squid-5.7.log");
 const CATALOGUE: u64 = 400;
 const LOG_BYTES: usize = 64_000_000;
 
-/// A way to turn a log into the bytes of a trace's part: the first are the result.
+/// A way to turn a log into the bytes of a trace's part: it gives how many of the buffer's first they are.
 type Way = fn(&[u8], &mut Vec<u8>) -> usize;
 
+/// The plain way takes a catalogue, a log and an empty vector, and may give the number of a bad line.
+type Plain = fn(u64, &[u8], &mut Vec<u8>) -> Result<(), usize>;
+
 const WAYS: [(&str, Way); 3] = [
-    ("library", library),
+    ("library", |log, out| library(log, out)),
     ("split, text", |log, out| {
         plainly(plain::over_text, log, out)
     }),
@@ -23,17 +26,13 @@ const WAYS: [(&str, Way); 3] = [
     }),
 ];
 
-fn library(log: &[u8], out: &mut Vec<u8>) -> usize {
+fn library(log: &[u8], out: &mut [u8]) -> usize {
     let answer = boundary::squid_part(CATALOGUE, log, out);
     assert_eq!(answer.number, 0, "the log is refused");
     answer.value as usize
 }
 
-fn plainly(
-    way: fn(u64, &[u8], &mut Vec<u8>) -> Result<(), usize>,
-    log: &[u8],
-    out: &mut Vec<u8>,
-) -> usize {
+fn plainly(way: Plain, log: &[u8], out: &mut Vec<u8>) -> usize {
     out.clear();
     way(CATALOGUE, log, out).expect("the log is good");
     out.len()
