@@ -25,23 +25,27 @@ fn settings(random: &mut Random) -> Settings {
 
 /// Both functions with room enough, and what they wrote read back by the readers.
 fn taken(random: &mut Random, settings: &Settings, log: &[u8], requests: &[Request]) -> Verdict {
-    let mut out = make::old_list(random, make::file_of(settings, requests).len(), |w| w as u8);
+    let count = Answer::done(requests.len());
+    let needed = make::file_of(settings, requests).len();
+    let mut out = make::old_list(random, needed, |word| word as u8);
     let whole = agree::squid_file(settings, log, &mut out)?;
-    agree::due(whole, Answer::done(make::file_of(settings, requests).len()))?;
+    agree::due(whole, Answer::done(needed))?;
     let mut words = make::exact_list(random, 5, |word| word);
     let mut lists = make::old_lists(random, requests.len());
-    let file = &out[..whole.value as usize];
-    let read_file = agree::read_file(file, &mut words, &mut lists)?;
+    let file_read = agree::read_file(&out[..needed], &mut words, &mut lists)?;
+    agree::due(file_read, count)?;
     agree::same_list("settings read back", &words, &settings.words())?;
     agree::same_requests(&lists, requests)?;
 
-    let mut out = make::old_list(random, make::part_of(requests).len(), |w| w as u8);
+    let needed = make::part_of(requests).len();
+    let mut out = make::old_list(random, needed, |word| word as u8);
     let further = agree::squid_part(settings.catalogue, log, &mut out)?;
+    agree::due(further, Answer::done(needed))?;
     let mut lists = make::old_lists(random, requests.len());
-    let part = &out[..further.value as usize];
-    let read_part = agree::read_part(settings.catalogue, part, &mut lists)?;
+    let part_read = agree::read_part(settings.catalogue, &out[..needed], &mut lists)?;
+    agree::due(part_read, count)?;
     agree::same_requests(&lists, requests)?;
-    Ok(vec![whole, read_file, further, read_part])
+    Ok(vec![whole, file_read, further, part_read])
 }
 
 /// Both functions refuse, the buffers being long enough.
