@@ -6,7 +6,7 @@
  * with any pointer.
  *
  * An answer is value * 256 + number. Number 0 is done, and the value is then the count that the function names. For 3 and
- * 4 the value is an offset or an index, else 0. */
+ * 4 the value is an offset or an index, for 10 the number of a line, counted from 1, else 0. */
 #ifndef SNAILSTAMP_H
 #define SNAILSTAMP_H
 
@@ -86,6 +86,18 @@ uint64_t snailstamp_write_part(uint64_t catalogue,
 /* The sheet of a trace file, as the program prints it; a refusal's line is a sheet too. Value when done: bytes of the
  * sheet. 6 where out is shorter than the sheet. */
 uint64_t snailstamp_sheet(const uint8_t *trace, size_t trace_length, uint8_t *out, size_t out_length);
+
+/* A trace file of these settings and of what a Squid native access log counts: its GET lines with status 200, in order.
+ * docs/SQUID.md says what each field of a line becomes. 10 is for a line that lacks a field, or a counted one with a bad
+ * number or range. Value when done: bytes written, never more than the log's length and 17 for the settings. */
+uint64_t snailstamp_squid_file(uint64_t unit, uint64_t policy, uint64_t capacity, uint64_t places, uint64_t catalogue,
+                               const uint8_t *log, size_t log_length,
+                               uint8_t *out, size_t out_length);
+
+/* A further part of what the log counts. Value when done: bytes written, never more than the log's length. */
+uint64_t snailstamp_squid_part(uint64_t catalogue,
+                               const uint8_t *log, size_t log_length,
+                               uint8_t *out, size_t out_length);
 
 #ifdef __cplusplus
 }

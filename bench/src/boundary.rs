@@ -1,4 +1,4 @@
-//! The seven functions of the archive, each behind a safe function over slices.
+//! The nine functions of the archive, each behind a safe function over slices.
 
 use crate::model::red_card::Answer;
 use crate::model::tables::Tables;
@@ -114,6 +114,26 @@ extern "C" {
     fn snailstamp_sheet(
         trace: *const u8,
         trace_length: usize,
+        out: *mut u8,
+        out_length: usize,
+    ) -> u64;
+
+    fn snailstamp_squid_file(
+        unit: u64,
+        policy: u64,
+        capacity: u64,
+        places: u64,
+        catalogue: u64,
+        log: *const u8,
+        log_length: usize,
+        out: *mut u8,
+        out_length: usize,
+    ) -> u64;
+
+    fn snailstamp_squid_part(
+        catalogue: u64,
+        log: *const u8,
+        log_length: usize,
         out: *mut u8,
         out_length: usize,
     ) -> u64;
@@ -322,4 +342,32 @@ pub fn write_part(
 
 pub fn sheet(trace: &[u8], out: &mut [u8]) -> Answer {
     decoded(unsafe { snailstamp_sheet(trace.as_ptr(), trace.len(), out.as_mut_ptr(), out.len()) })
+}
+
+pub fn squid_file(settings: &Settings, log: &[u8], out: &mut [u8]) -> Answer {
+    decoded(unsafe {
+        snailstamp_squid_file(
+            settings.unit,
+            settings.policy,
+            settings.capacity,
+            settings.places,
+            settings.catalogue,
+            log.as_ptr(),
+            log.len(),
+            out.as_mut_ptr(),
+            out.len(),
+        )
+    })
+}
+
+pub fn squid_part(catalogue: u64, log: &[u8], out: &mut [u8]) -> Answer {
+    decoded(unsafe {
+        snailstamp_squid_part(
+            catalogue,
+            log.as_ptr(),
+            log.len(),
+            out.as_mut_ptr(),
+            out.len(),
+        )
+    })
 }

@@ -1,10 +1,11 @@
-//! The independent model: document 01 in plain vectors, written to be read against it.
+//! The independent model: documents 01 and 02 in plain vectors, written to be read against them.
 
 pub mod limits;
 pub mod red_card;
 pub mod run;
 pub mod sheet;
 pub mod soundness;
+pub mod squid;
 pub mod tables;
 pub mod tally;
 pub mod trace;

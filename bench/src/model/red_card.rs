@@ -13,6 +13,8 @@ pub enum Refusal {
     Unsound,
     OtherUnit,
     LongInput,
+    /// The number of a log's line, counted from 1.
+    BadLine(usize),
 }
 
 impl Refusal {
@@ -27,12 +29,13 @@ impl Refusal {
             Refusal::Unsound => 7,
             Refusal::OtherUnit => 8,
             Refusal::LongInput => 9,
+            Refusal::BadLine(_) => 10,
         }
     }
 
     fn value(self) -> u64 {
         match self {
-            Refusal::Form(at) | Refusal::Range(at) => at as u64,
+            Refusal::Form(at) | Refusal::Range(at) | Refusal::BadLine(at) => at as u64,
             _ => 0,
         }
     }

@@ -1,6 +1,9 @@
-//! Times the library beside the usual way over the same traces: `bench [REQUESTS [RUNS]]`.
+//! Times the library beside the usual way over the same traces, and beside the plain way over a Squid log:
+//! `bench [REQUESTS [RUNS]]`, or `bench squid [RUNS]` for the log alone.
 
 mod decode;
+mod logs;
+mod plain;
 mod usual;
 mod workload;
 
@@ -82,24 +85,37 @@ struct Line {
 }
 
 fn main() -> ExitCode {
-    let mut arguments = std::env::args().skip(1).map(|text| text.parse::<u64>());
-    let requests = arguments.next().unwrap_or(Ok(DEFAULT_REQUESTS));
-    let runs = arguments.next().unwrap_or(Ok(DEFAULT_RUNS));
+    let mut arguments: Vec<String> = std::env::args().skip(1).collect();
+    let log_alone = arguments.first().is_some_and(|word| word == "squid");
+    if log_alone {
+        arguments[0] = DEFAULT_REQUESTS.to_string();
+    }
+    let number = |at: usize, other| arguments.get(at).map_or(Ok(other), |text| text.parse());
+    let (requests, runs) = (number(0, DEFAULT_REQUESTS), number(1, DEFAULT_RUNS));
     let (Ok(requests @ 1..=MOST_REQUESTS), Ok(runs @ 1..)) = (requests, runs) else {
-        eprintln!("bench [REQUESTS [RUNS]]");
+        eprintln!("bench [REQUESTS [RUNS]] | bench squid [RUNS]");
         return ExitCode::from(2);
     };
+    let timed = if log_alone {
+        println!("medians of {runs} runs");
+        logs::time_all(runs)
+    } else {
+        traces(requests, runs).and_then(|()| logs::time_all(runs))
+    };
+    if let Err(difference) = timed {
+        println!("{difference}");
+        return ExitCode::FAILURE;
+    }
+    ExitCode::SUCCESS
+}
+
+fn traces(requests: u64, runs: u64) -> Result<(), String> {
     println!("{requests} requests over {MOST_CATALOGUE} files, medians of {runs} runs");
     let workloads = workload::all(requests);
-    match time_all(&workloads, runs) {
-        Ok(lines) => print_growth(&lines),
-        Err(difference) => {
-            println!("{difference}");
-            return ExitCode::FAILURE;
-        }
-    }
+    let lines = time_all(&workloads, runs)?;
+    print_growth(&lines);
     print_calls(&workloads[0], runs);
-    ExitCode::SUCCESS
+    Ok(())
 }
 
 fn time_all(workloads: &[Workload], runs: u64) -> Result<Vec<Line>, String> {

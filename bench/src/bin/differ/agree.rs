@@ -6,9 +6,10 @@ use bench::boundary;
 use bench::model::red_card::{Answer, Refusal};
 use bench::model::sheet::sheet_into;
 use bench::model::soundness::sound;
+use bench::model::squid;
 use bench::model::tables::{self, Carried, Tables};
 use bench::model::tally::{Settings, Tally, TALLY_WORDS};
-use bench::model::trace::{self, Lists};
+use bench::model::trace::{self, Lists, Request};
 
 /// The tally and the tables that a caller lends.
 #[derive(Clone)]
@@ -154,6 +155,37 @@ pub fn sheet(trace: &[u8], out: &mut [u8]) -> Agreement {
     Ok(given)
 }
 
+pub fn squid_file(settings: &Settings, log: &[u8], out: &mut [u8]) -> Agreement {
+    let mut expected = out.to_vec();
+    let result = squid::squid_file(settings, log, &mut expected);
+    let given = framed(out, |out| boundary::squid_file(settings, log, out))?;
+    same_answer(given, result)?;
+    same_list("out", out, &expected)?;
+    Ok(given)
+}
+
+pub fn squid_part(catalogue: u64, log: &[u8], out: &mut [u8]) -> Agreement {
+    let mut expected = out.to_vec();
+    let result = squid::squid_part(catalogue, log, &mut expected);
+    let given = framed(out, |out| boundary::squid_part(catalogue, log, out))?;
+    same_answer(given, result)?;
+    same_list("out", out, &expected)?;
+    Ok(given)
+}
+
+/// Lends the middle of a longer buffer; nothing before it and nothing behind it may change.
+fn framed(out: &mut [u8], call: impl FnOnce(&mut [u8]) -> Answer) -> Agreement {
+    const FRAME: [u8; 24] = [0xa5; 24];
+    let mut longer = [&FRAME, &*out, &FRAME].concat();
+    let (before, rest) = longer.split_at_mut(FRAME.len());
+    let (lent, behind) = rest.split_at_mut(out.len());
+    let given = call(lent);
+    out.copy_from_slice(lent);
+    same_list("bytes before out", before, &FRAME)?;
+    same_list("bytes behind out", behind, &FRAME)?;
+    Ok(given)
+}
+
 /// What a sheet says by its text: refused by a number, or done.
 pub fn said(sheet: &[u8]) -> Answer {
     let text = std::str::from_utf8(sheet).unwrap_or("");
@@ -184,6 +216,12 @@ fn same_lent(given: &Lent, expected: &Lent) -> Result<(), String> {
     same_list("key", &given.tables.key, &expected.tables.key)?;
     same_list("stamp", &given.tables.stamp, &expected.tables.stamp)?;
     same_list("queue", &given.tables.queue, &expected.tables.queue)
+}
+
+/// The entries that a reader wrote are these requests.
+pub fn same_requests(given: &Lists, expected: &[Request]) -> Result<(), String> {
+    let read: Vec<Request> = (0..expected.len()).map(|at| given.request(at)).collect();
+    same_list("requests read back", &read, expected)
 }
 
 fn same_lists(given: &Lists, expected: &Lists) -> Result<(), String> {

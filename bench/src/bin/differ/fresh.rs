@@ -1,23 +1,14 @@
 //! Fresh starts: settings in and out of range, short tables, old contents.
 
 use bench::model::limits::{MOST_CATALOGUE, MOST_PLACES};
-use bench::model::tally::{Settings, SETTING_RANGES, TALLY_WORDS};
+use bench::model::tally::{Settings, TALLY_WORDS};
 use bench::random::Random;
 
 use crate::agree::{self, Lent};
 use crate::{make, Verdict};
 
 pub fn settings(random: &mut Random) -> Verdict {
-    let mut words = make::settings(random).words();
-    let changes = random.below(3);
-    for _ in 0..changes {
-        let field = random.index(5);
-        let (least, most) = SETTING_RANGES[field];
-        let any = random.word();
-        let edges = [0, least, most, most + 1, u64::MAX, any];
-        words[field] = random.pick(&edges);
-    }
-    let settings = Settings::from_words(words);
+    let settings = make::settings_near_their_ends(random);
     let needed = Settings {
         places: settings.places.min(MOST_PLACES),
         catalogue: settings.catalogue.min(MOST_CATALOGUE),

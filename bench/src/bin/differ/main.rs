@@ -6,6 +6,7 @@ mod craft;
 mod damage;
 mod fields;
 mod fresh;
+mod logs;
 mod make;
 mod order;
 mod pieces;
@@ -13,6 +14,7 @@ mod printed;
 mod runs;
 mod sheets;
 mod soundness;
+mod squid;
 mod traces;
 
 use std::io::Write;
@@ -26,9 +28,10 @@ type Verdict = Result<Vec<Answer>, String>;
 
 /// A kind of case, the numbers of the red card that its calls must reach (0 is done), and by how much fewer of it are run.
 ///
-/// The numbers are those of document 01's list and of the boundary's orders of refusals that the kind is made for: 1 and 2
-/// for a fresh start, 1, 2, 8, 7, 3, 4, 5 and 6 for carrying on, 1, 3, 4 and 6 for the reader, 1, 2, 4 and 6 for the
-/// writer, 9, 1, 2, 3 and 4 on a sheet. A kind that misses one of them tests less than it says, and the run fails.
+/// The numbers are those of the lists of documents 01 and 02 and of the boundary's orders of refusals that the kind is
+/// made for: 1 and 2 for a fresh start, 1, 2, 8, 7, 3, 4, 5 and 6 for carrying on, 1, 3, 4 and 6 for the reader, 1, 2,
+/// 4 and 6 for the writer, 9, 1, 2, 3 and 4 on a sheet, 1, 10 and 6 for a Squid log. A kind that misses one of them
+/// tests less than it says, and the run fails.
 struct Kind {
     name: &'static str,
     case: fn(&mut Random) -> Verdict,
@@ -49,7 +52,7 @@ const fn kind(
     }
 }
 
-const KINDS: [Kind; 23] = [
+const KINDS: [Kind; 31] = [
     kind("settings in and out of range", fresh::settings, &[0, 1]),
     kind("fresh start, tables too short", fresh::too_short, &[0, 2]),
     kind("fresh start over old contents, twins", fresh::twins, &[0]),
@@ -91,7 +94,35 @@ const KINDS: [Kind; 23] = [
         reaches: &[0, 5],
         fewer: u64::MAX,
     },
+    kind("good Squid logs", squid::good, &[0]),
+    kind("Squid logs, room for the trace", squid::room, &[0, 6]),
+    kind(
+        "Squid logs, settings in and out of range",
+        squid::settings_in_and_out,
+        &[0, 1, 10],
+    ),
+    kind(
+        "Squid logs, each way to be bad",
+        squid::each_way_to_be_bad,
+        &[10],
+    ),
+    kind("Squid logs of words by chance", squid::of_words, &[0, 10]),
+    kind(
+        "Squid logs, order of refusals",
+        order::squid,
+        &[0, 1, 6, 10],
+    ),
+    kind("real Squid logs, damaged", squid::damaged, &[0, 10]),
+    Kind {
+        name: "long Squid logs",
+        case: squid::long,
+        reaches: &[0, 10],
+        fewer: u64::MAX,
+    },
 ];
+
+/// Calls by their number on the red card, 0 to 10.
+type Calls = [u64; 11];
 
 /// Only where a program is named.
 const PRINTED: Kind = kind(
@@ -137,7 +168,7 @@ fn main() -> ExitCode {
 }
 
 /// The numbers that a kind must reach and has not.
-fn missed_by(kind: &Kind, calls: &[u64; 10]) -> Vec<String> {
+fn missed_by(kind: &Kind, calls: &Calls) -> Vec<String> {
     let unreached = kind.reaches.iter().filter(|&&at| calls[at as usize] == 0);
     unreached
         .map(|number| format!("{}: no call answered {number}", kind.name))
@@ -145,12 +176,12 @@ fn missed_by(kind: &Kind, calls: &[u64; 10]) -> Vec<String> {
 }
 
 /// Runs the cases of a kind and gives its calls by their number.
-fn run_kind(kind: &Kind, number: u64, cases: u64, seed: u64) -> Result<[u64; 10], String> {
+fn run_kind(kind: &Kind, number: u64, cases: u64, seed: u64) -> Result<Calls, String> {
     let cases = cases.div_ceil(kind.fewer);
     // The name goes out first, so that a crash inside the library is seen where it happened.
     print!("{}: ", kind.name);
     let _ = std::io::stdout().flush();
-    let mut calls = [0; 10];
+    let mut calls = Calls::default();
     for case in 0..cases {
         let mut random = Random::of_case(seed, number, case);
         let answers = (kind.case)(&mut random)
@@ -164,7 +195,7 @@ fn run_kind(kind: &Kind, number: u64, cases: u64, seed: u64) -> Result<[u64; 10]
 }
 
 /// The calls by their number on the red card, those that occurred.
-fn listed(calls: &[u64; 10]) -> String {
+fn listed(calls: &Calls) -> String {
     let numbers = calls.iter().enumerate().filter(|(_, &count)| count > 0);
     let parts: Vec<String> = numbers
         .map(|(number, count)| match number {

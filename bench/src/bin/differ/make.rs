@@ -4,7 +4,7 @@ use bench::model::limits::{
     MOST_CAPACITY, MOST_CATALOGUE, MOST_COST, MOST_PLACES, MOST_REQUESTS, MOST_SIZE, MOST_UNIT,
 };
 use bench::model::tables::Tables;
-use bench::model::tally::{Settings, TALLY_WORDS};
+use bench::model::tally::{Settings, SETTING_RANGES, TALLY_WORDS};
 use bench::model::trace::{write_number, Lists, Request};
 use bench::random::Random;
 
@@ -32,6 +32,20 @@ pub fn largest(random: &mut Random) -> Settings {
         places: MOST_PLACES,
         catalogue: MOST_CATALOGUE,
     }
+}
+
+/// Settings with up to two of them at or beyond an end of their range.
+pub fn settings_near_their_ends(random: &mut Random) -> Settings {
+    let mut words = settings(random).words();
+    let changes = random.below(3);
+    for _ in 0..changes {
+        let field = random.index(5);
+        let (least, most) = SETTING_RANGES[field];
+        let any = random.word();
+        let edges = [0, least, most, most + 1, u64::MAX, any];
+        words[field] = random.pick(&edges);
+    }
+    Settings::from_words(words)
 }
 
 pub fn request(random: &mut Random, settings: &Settings) -> Request {

@@ -9,6 +9,7 @@ use bench::random::Random;
 
 use crate::agree::{self, Lent};
 use crate::fields::{all_requests, bytes_of, request_fault, setting_fault, setting_fields, Field};
+use crate::logs::{bad_line, good_lines, log_of, requests_of};
 use crate::{make, Verdict};
 
 /// A fault of its own chance: the refusal, where the coin falls so.
@@ -248,4 +249,41 @@ pub fn sheet(random: &mut Random) -> Verdict {
         )?;
     }
     Ok(vec![given, agree::said(&out[..given.value as usize])])
+}
+
+pub fn squid(random: &mut Random) -> Verdict {
+    let mut settings = make::settings(random);
+    let mut lines = good_lines(random, settings.catalogue, 4);
+    let requests = requests_of(&lines);
+    let room = chance(random, Refusal::Room);
+    let mut bad = None;
+    for _ in 0..random.below(3) {
+        let at = random.index(lines.len() + 1);
+        lines.insert(at, bad_line(random, settings.catalogue));
+        bad = Some(bad.map_or(at, |first: usize| first.min(at)));
+    }
+    let bad = bad.map(|at| Refusal::BadLine(at + 1));
+    let log = log_of(random, &lines);
+
+    let needed = make::part_of(&requests).len();
+    let short = room.filter(|_| needed > 0);
+    let mut out = vec![9; needed - usize::from(short.is_some())];
+    let outside = chance(random, Refusal::Setting);
+    let catalogue = if outside.is_some() {
+        SETTING_RANGES[4].1 + 1
+    } else {
+        settings.catalogue
+    };
+    let further = agree::squid_part(catalogue, &log, &mut out)?;
+    agree::due(further, first(&[outside, bad, short], needed))?;
+
+    let needed = make::file_of(&settings, &requests).len();
+    let mut out = vec![9; needed - usize::from(room.is_some())];
+    let outside = chance(random, Refusal::Setting);
+    if outside.is_some() {
+        settings = put_outside(random, &settings);
+    }
+    let whole = agree::squid_file(&settings, &log, &mut out)?;
+    agree::due(whole, first(&[outside, bad, room], needed))?;
+    Ok(vec![whole, further])
 }
