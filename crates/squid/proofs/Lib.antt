@@ -3,6 +3,7 @@ pub mod Ends
 pub mod Walking
 pub mod Spelling
 pub mod Parting
+pub mod Words
 pub mod Entering
 pub mod Passing
 pub mod Answering

@@ -3,6 +3,7 @@ mod entry;
 mod field;
 mod log;
 mod number;
+mod word;
 
 pub use entry::Entry;
 pub use entry::Line;
