@@ -18,8 +18,8 @@ extern "C" {
 #endif
 
 /* The tally's words, in their order: unit, policy, capacity, places, catalogue, L, bytes kept, files kept, requests, hits,
- * admitted, passed, evicted, bytes asked, hit bytes, cost asked, hit cost. */
-#define SNAILSTAMP_TALLY_WORDS 17
+ * admitted, passed, evicted, bytes asked, hit bytes, cost asked, hit cost, dropped. */
+#define SNAILSTAMP_TALLY_WORDS 18
 
 /* Unit, policy, capacity, places, catalogue. */
 #define SNAILSTAMP_SETTINGS_WORDS 5
@@ -41,7 +41,8 @@ uint64_t snailstamp_fresh(uint64_t unit, uint64_t policy, uint64_t capacity, uin
                           uint16_t *queue, size_t queue_length);
 
 /* Carries a run on over a further part of its trace, only under the unit that its tally names. Value when done: events
- * written. An event is kind * 32768 + file; kinds are 1 hit, 2 admit, 3 big, 4 low, 5 evict. */
+ * written. An event is kind * 32768 + file; kinds are 1 hit, 2 admit, 3 big, 4 low, 5 evict, 6 stale. A stale copy is a
+ * kept one whose size is not the request's: it is dropped, and the request goes on as a miss. */
 uint64_t snailstamp_carry_on(uint64_t unit,
                              uint64_t *tally, size_t tally_length,
                              uint16_t *place, size_t place_length,

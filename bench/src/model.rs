@@ -12,3 +12,5 @@ pub mod trace;
 
 #[cfg(test)]
 mod pieces;
+#[cfg(test)]
+mod recuts;

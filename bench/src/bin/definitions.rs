@@ -32,7 +32,7 @@ keyOf (kept r) = r .size ∷ r .cost ∷ r .freq ∷ r .key ∷ r .stamp ∷ []
 q : ℕ → ℕ → ℕ → Request
 q f z c = record { file = f; size = z; cost = c }
 tot : Totals → List ℕ
-tot y = y .requests ∷ y .hits ∷ y .admitted ∷ y .passed ∷ y .evicted ∷ y .bytes ∷ y .hitBytes ∷ y .cost ∷ y .hitCost ∷ []
+tot y = y .requests ∷ y .hits ∷ y .admitted ∷ y .passed ∷ y .evicted ∷ y .dropped ∷ y .bytes ∷ y .hitBytes ∷ y .cost ∷ y .hitCost ∷ []
 
 ";
 
@@ -74,9 +74,7 @@ fn module(traces: u64, seed: u64) -> String {
     for number in 0..traces {
         let mut random = Random::of_case(seed, 0, number);
         let settings = settings(&mut random, 1 + number % 2);
-        let requests: Vec<Request> = (0..REQUESTS)
-            .map(|_| request(&mut random, &settings))
-            .collect();
+        let requests = requests(&mut random, &settings);
         text += &theorem(number, settings, &requests);
     }
     text
@@ -92,16 +90,26 @@ fn settings(random: &mut Random, policy: u64) -> Settings {
     }
 }
 
-fn request(random: &mut Random, settings: &Settings) -> Request {
-    let capacity = settings.capacity;
-    let any_size = random.between(1, 199);
-    let sizes = [1, 3, 7, 16, 64, 32, 128, capacity, capacity + 1, any_size];
-    let any_cost = random.below(65_536);
-    Request {
-        file: random.below(settings.catalogue),
-        size: random.pick(&sizes),
-        cost: random.pick(&[0, 1, 1, 2, 5, any_cost]),
-    }
+/// Requests that mostly ask for a file in the size that it had before, and one in so many for another cut of it.
+const RECUT_CHANCES: u64 = 4;
+
+fn requests(random: &mut Random, settings: &Settings) -> Vec<Request> {
+    let mut sizes = vec![None; settings.catalogue as usize];
+    let each = (0..REQUESTS).map(|_| {
+        let file = random.below(settings.catalogue);
+        let last = sizes[file as usize].filter(|_| !random.one_in(RECUT_CHANCES));
+        let size = last.unwrap_or_else(|| size(random, settings.capacity));
+        sizes[file as usize] = Some(size);
+        let any_cost = random.below(65_536);
+        let cost = random.pick(&[0, 1, 1, 2, 5, any_cost]);
+        Request { file, size, cost }
+    });
+    each.collect()
+}
+
+fn size(random: &mut Random, capacity: u64) -> u64 {
+    let any = random.between(1, 199);
+    random.pick(&[1, 3, 7, 16, 64, 32, 128, capacity, capacity + 1, any])
 }
 
 /// One trace, its run by the definitions, and that the run gives the model's numbers.
@@ -142,13 +150,14 @@ same{n} = refl
     )
 }
 
-fn totals(tally: &Tally) -> [u64; 9] {
+fn totals(tally: &Tally) -> [u64; 10] {
     [
         tally.requests,
         tally.hits,
         tally.admitted,
         tally.passed,
         tally.evicted,
+        tally.dropped,
         tally.bytes_asked,
         tally.hit_bytes,
         tally.cost_asked,
@@ -170,4 +179,35 @@ fn list<T: ToString>(numbers: &[T]) -> String {
     }
     let numbers: Vec<String> = numbers.iter().map(T::to_string).collect();
     format!("({} ∷ [])", numbers.join(" ∷ "))
+}
+
+#[cfg(test)]
+mod tests {
+    use super::{requests, settings};
+    use bench::model::run::Run;
+    use bench::random::Random;
+
+    /// The sixty traces that the gate computes hold every kind of event, recuts of each outcome among them.
+    #[test]
+    fn the_traces_hold_recuts_of_each_outcome() {
+        let (mut kinds, mut recuts) = ([0; 7], [0; 7]);
+        for number in 0..60 {
+            let mut random = Random::of_case(1, 0, number);
+            let settings = settings(&mut random, 1 + number % 2);
+            let requests = requests(&mut random, &settings);
+            let mut is_recut = false;
+            for event in Run::fresh(settings).serve_all(&requests) {
+                let kind = (event / 32_768) as usize;
+                kinds[kind] += 1;
+                if kind < 5 {
+                    recuts[kind] += u64::from(is_recut);
+                    is_recut = false;
+                }
+                is_recut |= kind == 6;
+            }
+        }
+        assert!(kinds[1..].iter().all(|&count| count > 50), "{kinds:?}");
+        assert_eq!(recuts[1], 0, "a recut is no hit");
+        assert!(recuts[2..5].iter().all(|&count| count > 5), "{recuts:?}");
+    }
 }

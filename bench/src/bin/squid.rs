@@ -58,10 +58,15 @@ mod tests {
     use super::{sheet, trace};
     use bench::model::run::Run;
     use bench::model::squid::requests;
-    use bench::model::tally::Settings;
+    use bench::model::tally::{Settings, Tally};
 
     const LOG: &[u8] = include_bytes!("../../../samples/squid-5.7.log");
     const SHEET: &str = include_str!("../../../samples/squid-5.7.sheet");
+
+    /// The same requests, logged in Squid's native format and with the body's size in place of the bytes sent.
+    const NATIVE: &[u8] = include_bytes!("../../../samples/recuts-native.log");
+    const BODIES: &[u8] = include_bytes!("../../../samples/recuts-bodies.log");
+    const BODIES_SHEET: &str = include_str!("../../../samples/recuts-bodies.sheet");
 
     /// A box that is too small for two of the files and for most of the others at once.
     const SETTINGS: Settings = Settings {
@@ -72,13 +77,22 @@ mod tests {
         catalogue: 400,
     };
 
+    /// A box that keeps every file.
+    const AMPLE: Settings = Settings {
+        capacity: 1_000_000,
+        places: 512,
+        ..SETTINGS
+    };
+
     #[test]
-    fn the_sheet_of_the_sample_is_the_models() {
-        let trace = trace(&SETTINGS, LOG).expect("the sample is good");
-        assert_eq!(sheet(&trace), SHEET);
-        for kind in ["hit ", "admit ", "big ", "low ", "evict "] {
+    fn the_sheets_of_the_samples_are_the_models() {
+        let small = trace(&SETTINGS, LOG).expect("the sample is good");
+        assert_eq!(sheet(&small), SHEET);
+        for kind in ["hit ", "admit ", "big ", "low ", "evict ", "stale "] {
             assert!(SHEET.contains(kind), "no {kind}");
         }
+        let bodies = trace(&AMPLE, BODIES).expect("the sample is good");
+        assert_eq!(sheet(&bodies), BODIES_SHEET);
     }
 
     /// File numbers of the counted lines, and how many of these have lines of two sizes.
@@ -96,27 +110,40 @@ mod tests {
         );
     }
 
-    /// All hits, those on a kept copy whose size is not the line's, and how far the sheet's bytes are below the log's.
-    fn hits_and_bytes(settings: Settings) -> [u64; 3] {
+    fn replayed(log: &[u8], settings: Settings) -> Tally {
         let mut run = Run::fresh(settings);
-        let (mut others, mut bytes) = (0, 0);
-        for request in requests(LOG, settings.catalogue).expect("the sample is good") {
-            let kept = run.kept.iter().find(|kept| kept.file == request.file);
-            others += u64::from(kept.is_some_and(|kept| kept.size != request.size));
-            bytes += request.size;
-            run.serve(request);
-        }
-        [run.tally.hits, others, bytes - run.tally.bytes_asked]
+        run.serve_all(&requests(log, settings.catalogue).expect("the sample is good"));
+        run.tally
+    }
+
+    /// Hits, stale copies, admitted, evicted, hit bytes and hit cost.
+    fn row(log: &[u8], settings: Settings) -> [u64; 6] {
+        let tally = replayed(log, settings);
+        let [hits, dropped] = [tally.hits, tally.dropped];
+        let [admitted, evicted] = [tally.admitted, tally.evicted];
+        let [hit_bytes, hit_cost] = [tally.hit_bytes, tally.hit_cost];
+        [hits, dropped, admitted, evicted, hit_bytes, hit_cost]
     }
 
     #[test]
-    fn hits_on_a_copy_of_another_size_are_as_docs_squid_says() {
-        assert_eq!(hits_and_bytes(SETTINGS), [162, 160, 960]);
-        let ample = Settings {
-            capacity: 1_000_000,
-            places: 512,
+    fn the_boxes_are_as_docs_squid_says() {
+        let first = Settings {
+            policy: 1,
             ..SETTINGS
         };
-        assert_eq!(hits_and_bytes(ample), [238, 228, 1_368]);
+        assert_eq!(row(LOG, SETTINGS), [125, 9, 40, 26, 1_090_134, 218]);
+        assert_eq!(row(LOG, first), [115, 5, 150, 142, 1_214_003, 208]);
+        assert_eq!(row(LOG, AMPLE), [215, 23, 52, 0, 3_192_865, 428]);
+        let ample_first = Settings { policy: 1, ..AMPLE };
+        assert_eq!(row(LOG, ample_first), row(LOG, AMPLE));
+        assert_eq!(replayed(LOG, AMPLE).bytes_asked, 4_420_332);
+    }
+
+    #[test]
+    fn one_size_a_cut_gives_squids_own_hits() {
+        assert_eq!(row(NATIVE, AMPLE)[..2], [33, 23]);
+        assert_eq!(row(BODIES, AMPLE)[..2], [52, 4]);
+        let text = std::str::from_utf8(BODIES).expect("a log of plain text");
+        assert_eq!(text.matches("TCP_MEM_HIT/200").count(), 52);
     }
 }

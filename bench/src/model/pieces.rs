@@ -25,7 +25,7 @@ admit 3
 evict 1
 admit 2
 big 4
-requests 6 hits 1 admitted 4 passed 1 evicted 2
+requests 6 hits 1 admitted 4 passed 1 evicted 2 dropped 0
 bytes 336 hitbytes 64
 cost 12 hitcost 4
 L 1048576 used 48 files 2
@@ -76,7 +76,7 @@ fn key_of(run: &Run, file: u64) -> u64 {
     found.expect("the file is kept").key
 }
 
-fn fresh_tables(settings: &Settings) -> ([u64; TALLY_WORDS], Tables) {
+pub(super) fn fresh_tables(settings: &Settings) -> ([u64; TALLY_WORDS], Tables) {
     let places = settings.places as usize;
     let mut tally = [9; TALLY_WORDS];
     let mut tables = Tables {
@@ -207,7 +207,7 @@ fn a_low_newcomer_leaves_all_as_it_stood() {
         size: 100,
         cost: 1,
     };
-    assert_eq!(run.serve(low), Outcome::Low);
+    assert_eq!(run.serve(low).outcome, Outcome::Low);
     assert_eq!(run.kept, kept);
     assert_eq!(run.tally.inflation, 0);
 }
@@ -225,7 +225,7 @@ fn refusals_come_in_their_order() {
     let mut outside = unsound;
     outside[4] = 0;
     assert_eq!(refusal(1 << 32, &[], &[0x80]), Some(1));
-    assert_eq!(refusal(8, &tally[..16], &[0x80]), Some(2));
+    assert_eq!(refusal(8, &tally[..TALLY_WORDS - 1], &[0x80]), Some(2));
     assert_eq!(refusal(8, &outside, &[0x80]), Some(1));
     assert_eq!(refusal(8, &unsound, &[0x80]), Some(8));
     assert_eq!(refusal(7, &unsound, &[0x80]), Some(7));

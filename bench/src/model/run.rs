@@ -24,6 +24,13 @@ pub enum Outcome {
     Low,
 }
 
+/// A request's outcome, and whether a copy of another size was dropped before it.
+#[derive(Clone, Debug, PartialEq, Eq)]
+pub struct Reply {
+    pub stale: bool,
+    pub outcome: Outcome,
+}
+
 #[derive(Clone, Copy)]
 enum Kind {
     Hit = 1,
@@ -31,6 +38,7 @@ enum Kind {
     Big = 3,
     Low = 4,
     Evict = 5,
+    Stale = 6,
 }
 
 /// A run: its tally, and the kept files in no special order.
@@ -52,13 +60,14 @@ impl Run {
     pub fn serve_all(&mut self, requests: &[Request]) -> Vec<u32> {
         let mut events = Vec::new();
         for request in requests {
-            let outcome = self.serve(*request);
-            push_events(request.file, &outcome, &mut events);
+            let reply = self.serve(*request);
+            push_events(request.file, &reply, &mut events);
         }
         events
     }
 
-    pub fn serve(&mut self, request: Request) -> Outcome {
+    pub fn serve(&mut self, request: Request) -> Reply {
+        let stale = self.drop_stale(request);
         let newcomer = Kept {
             file: request.file,
             size: request.size,
@@ -75,7 +84,17 @@ impl Run {
         self.tally.requests += 1;
         self.tally.files_kept = self.kept.len() as u64;
         self.tally.bytes_kept = bytes_of(&self.kept);
-        outcome
+        Reply { stale, outcome }
+    }
+
+    /// A kept copy of another size is an old cut: it goes for good, whatever the request then comes to.
+    fn drop_stale(&mut self, request: Request) -> bool {
+        let is_old_cut = |kept: &Kept| kept.file == request.file && kept.size != request.size;
+        let before = self.kept.len();
+        self.kept.retain(|kept| !is_old_cut(kept));
+        let stale = self.kept.len() < before;
+        self.tally.dropped += u64::from(stale);
+        stale
     }
 
     fn hit(&mut self, index: usize) -> Outcome {
@@ -173,9 +192,12 @@ fn event(kind: Kind, file: u64) -> u32 {
     kind as u32 * 32_768 + file as u32
 }
 
-/// A request's evictions come first, then its own entry.
-fn push_events(file: u64, outcome: &Outcome, events: &mut Vec<u32>) {
-    let kind = match outcome {
+/// The drop of a stale copy comes first, then the request's evictions, then its own entry.
+fn push_events(file: u64, reply: &Reply, events: &mut Vec<u32>) {
+    if reply.stale {
+        events.push(event(Kind::Stale, file));
+    }
+    let kind = match &reply.outcome {
         Outcome::Hit => Kind::Hit,
         Outcome::Big => Kind::Big,
         Outcome::Low => Kind::Low,

@@ -9,7 +9,7 @@ pub const SHEET_PLACES: u64 = 512;
 pub const SHEET_CATALOGUE: u64 = 4_096;
 pub const SHEET_INPUT: usize = 16_384;
 
-const KIND_NAMES: [&str; 6] = ["", "hit", "admit", "big", "low", "evict"];
+const KIND_NAMES: [&str; 7] = ["", "hit", "admit", "big", "low", "evict", "stale"];
 
 /// What the program prints: the sheet, or the line of a refusal.
 pub fn sheet(trace: &[u8]) -> String {
@@ -42,8 +42,8 @@ fn text(tally: &Tally, events: &[u32]) -> String {
         text += &format!("{kind} {}\n", event % 32_768);
     }
     text += &format!(
-        "requests {} hits {} admitted {} passed {} evicted {}\n",
-        tally.requests, tally.hits, tally.admitted, tally.passed, tally.evicted
+        "requests {} hits {} admitted {} passed {} evicted {} dropped {}\n",
+        tally.requests, tally.hits, tally.admitted, tally.passed, tally.evicted, tally.dropped
     );
     text += &format!("bytes {} hitbytes {}\n", tally.bytes_asked, tally.hit_bytes);
     text += &format!("cost {} hitcost {}\n", tally.cost_asked, tally.hit_cost);

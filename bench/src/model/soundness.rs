@@ -27,7 +27,8 @@ fn wide(word: u64) -> u128 {
 fn counts_agree(tally: &Tally) -> bool {
     wide(tally.hits) + wide(tally.admitted) + wide(tally.passed) == wide(tally.requests)
         && tally.requests <= MOST_REQUESTS
-        && wide(tally.evicted) + wide(tally.files_kept) == wide(tally.admitted)
+        && wide(tally.evicted) + wide(tally.dropped) + wide(tally.files_kept)
+            == wide(tally.admitted)
 }
 
 fn totals_in_range(tally: &Tally) -> bool {

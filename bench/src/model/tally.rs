@@ -11,7 +11,7 @@ pub const SETTING_RANGES: [(u64, u64); 5] = [
     (1, MOST_CATALOGUE),
 ];
 
-pub const TALLY_WORDS: usize = 17;
+pub const TALLY_WORDS: usize = 18;
 
 #[derive(Clone, Copy, Debug, PartialEq, Eq)]
 pub struct Settings {
@@ -73,6 +73,7 @@ pub struct Tally {
     pub hit_bytes: u64,
     pub cost_asked: u64,
     pub hit_cost: u64,
+    pub dropped: u64,
 }
 
 impl Tally {
@@ -102,6 +103,7 @@ impl Tally {
             hit_bytes: words[14],
             cost_asked: words[15],
             hit_cost: words[16],
+            dropped: words[17],
         }
     }
 
@@ -125,6 +127,7 @@ impl Tally {
             self.hit_bytes,
             self.cost_asked,
             self.hit_cost,
+            self.dropped,
         ]
     }
 }

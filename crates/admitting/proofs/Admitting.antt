@@ -37,7 +37,7 @@ use Rattle.newcomer.specs.Newcomer.{limitOf, baseOf, newRecord}
 use Rattle.admitting.specs.Deciding.{Met, meets, beyondOf}
 use Rattle.admitting.specs.Admitting.{Admissible, admits, goneIn, leftIn, Enterable, enters}
 use Rattle.admitting.specs.declared.untold.Untold.{Untold}
-use Rattle.admitting.proofs.Beyond.{drop-same, beyond-queue}
+use Rattle.shelving.proofs.Beyond.{drop-same, beyond-queue}
 use Rattle.admitting.proofs.Meetings as meetings
 
 -- ---- either policy, from what is set aside up to its limit

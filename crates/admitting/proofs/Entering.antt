@@ -10,7 +10,7 @@ use Rattle.amounts.specs.Limits.{noPlace}
 use Rattle.amounts.specs.Worth.{Valued}
 use Rattle.amounts.specs.Requests.{Request}
 use Rattle.amounts.specs.declared.settings.Settings.{Settings}
-use Rattle.amounts.proofs.Tests.{same, below}
+use Rattle.amounts.proofs.Tests.{same}
 use Rattle.queue.specs.Queue.{times, Insertable, Inserted}
 use Rattle.queue.proofs.Totals.{times-found, Found}
 use Rattle.method.specs.Shelf.{Kept, none, kept, Shelf}
@@ -20,10 +20,9 @@ use Rattle.tables.specs.Tables.{Tables, shelfOf}
 use Rattle.tables.specs.Tally.{totalsOf}
 use Rattle.tables.specs.Sound.{At, Occupied}
 use Rattle.tables.specs.declared.tally.Tally.{Tally}
-use Rattle.tables.proofs.Counting.{times-twice}
 use Rattle.tables.proofs.Shelves.{shelf-at, shelf-length, slot-none}
 use Rattle.shelving.specs.Live.{Live, Stack}
-use Rattle.shelving.specs.Evicting.{withQueue, behind, lastPlace, dropLast, dropAll, Droppable, Dropped}
+use Rattle.shelving.specs.Evicting.{withQueue, behind, lastPlace, dropLast, dropAll, Dropped}
 use Rattle.shelving.specs.Records.{seven, Within, keptOf, Keepable, Keeps}
 use Rattle.shelving.specs.Telling.{Tellable, Told}
 use Rattle.shelving.specs.declared.records.Kept as records
@@ -36,7 +35,7 @@ use Rattle.counting.specs.Counting.{after, admitTotals}
 use Rattle.newcomer.specs.Newcomer.{newRecord, goneFor, admittedTally}
 use Rattle.admitting.specs.Deciding.{beyondOf, Met}
 use Rattle.admitting.specs.Admitting.{goneIn, leftIn, Enterable, enters}
-use Rattle.admitting.proofs.Beyond.{drop-same, beyond-all}
+use Rattle.shelving.proofs.Beyond.{drop-same, beyond-all}
 use Rattle.admitting.proofs.Putting.{keptAt, put}
 use Rattle.admitting.proofs.Meetings.{met-as}
 use Rattle.admitting.proofs.Tallies.{admit-totals, admit-kept, tallied-after}
@@ -44,17 +43,6 @@ use Rattle.admitting.proofs.Tallies.{admit-totals, admit-kept, tallied-
 -- ---- what the steps ask
 
 module _ {s : Settings} {n m : ℕ} {t : Tables} {entry : List ℕ} (h : Live s n m t entry) where
-  twice : (i j : ℕ) → i < j → j < n → getD (t .queue) i 0 ≡ getD (t .queue) j 0 → ⊥
-  twice i j a b e = omega (arith, times-twice (t .queue) i j n a b e, h .queued .once (getD (t .queue) j 0) (h .queued .entries j b))
-
-  entries-apart : (i j : ℕ) → i < n → j < n → getD (t .queue) i 0 ≡ getD (t .queue) j 0 → i ≡ j
-  entries-apart i j a b e =
-      ⊎-elim (λ z. z) (λ ne. ⊎-elim (λ z. absurd (twice i j z b e)) (λ z. absurd (twice j i (omega arith) a (sym e))) (below i j)) (same i j)
-
-  pub live-droppable : (free : List ℕ) → s .places .0 ≤ length free → Droppable s n m t free
-  live-droppable free long =
-      record { places = h .places; long = h .long; free-long = long; few = h .few; part = h .part; entries = h .queued .entries; apart = entries-apart }
-
   pub live-tellable : (events : List ℕ) (at : ℕ) → at + n ≤ length events → Tellable n m (t .file) (t .queue) events at
   live-tellable events at room =
       record {

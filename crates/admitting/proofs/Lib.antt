@@ -1,5 +1,4 @@
 -- The laws of this room.
-pub mod Beyond
 pub mod Putting
 pub mod Tallies
 pub mod Meetings

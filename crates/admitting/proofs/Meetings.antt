@@ -1,94 +1,35 @@
--- Between requests, and a request with its cost in force: what is known before it is decided, and a pass, which changes nothing but the tally. Assumes nothing.
-use mathlib.Core.Path.{_≡_, refl, sym, ap, _∙_, subst, subst₂}
+-- A request with its cost in force: what is known before it is decided, and a pass, which changes nothing but the tally. Assumes nothing.
+use mathlib.Core.Path.{_≡_, refl, sym, _∙_, subst₂}
 use mathlib.Core.List.{List, []}
 use Prim.Native.Nat.{ℕ, suc, _≤_, _<_}
 use native.Mathlib.Omega.{arith}
 use lib.ListN.{length, getD, drop}
-use borrow.Author.Tests.{le-leb, le-ltb}
-use Rattle.amounts.specs.Limits.{noPlace, sizeMost, costMost}
-use Rattle.amounts.specs.Worth.{inForce}
-use Rattle.amounts.specs.Requests.{Request, resolved, Ranged}
+use borrow.Author.Tests.{le-ltb}
+use Rattle.amounts.specs.Limits.{noPlace}
+use Rattle.amounts.specs.Requests.{Request}
 use Rattle.amounts.specs.declared.settings.Settings.{Settings}
-use Rattle.amounts.proofs.Tests.{in-one-to, pick-false}
-use Rattle.amounts.proofs.Values.{in-force-some}
-use Rattle.queue.proofs.Index.{distinct}
+use Rattle.amounts.proofs.Tests.{pick-false}
 use Rattle.method.specs.Shelf.{none, Shelf}
-use Rattle.method.specs.Method.{Policy, State, Served, served, missed, meet, step}
+use Rattle.method.specs.Method.{Policy, State, Served, served, missed}
 use Rattle.method.specs.Method as method
 use Rattle.method.specs.Promise.{SoundAt, Small}
 use Rattle.method.specs.declared.outcome.Pass.{Pass}
 use Rattle.method.specs.declared.outcome.Outcome.{Outcome}
 use Rattle.method.specs.declared.outcome.Outcome.the-variants.{Passed}
-use Rattle.method.proofs.Sound.{step-sound}
+use Rattle.method.proofs.Sound.{meet-sound}
 use Rattle.method.proofs.Demand.{sound-small}
 use Rattle.tables.specs.Tables.{Tables, slotOf, shelfOf}
 use Rattle.tables.specs.Tally.{storeOf, policyIn, stampOf, stateOf, totalsOf}
 use Rattle.tables.specs.declared.tally.Tally.{Tally}
-use Rattle.tables.proofs.Ranges.{Bounded, bounded}
 use Rattle.tables.proofs.Shelves.{shelf-at, shelf-length, shelf-queue, slot-none}
-use Rattle.shelving.specs.Live.{Live, Stack}
-use Rattle.shelving.specs.Room.{queueBytes}
+use Rattle.shelving.specs.Live.{Live}
 use Rattle.shelving.specs.Evicting.{withQueue}
-use Rattle.shelving.proofs.Covers.{shelf-covered, sum-covered}
-use Rattle.shelving.proofs.Lives.{stack-same}
+pub use Rattle.shelving.proofs.Runnings.{live, stack, queue-stack, one-place, held-bytes}
 use Rattle.counting.specs.Counting.{passTally, Countable}
-use Rattle.admitting.specs.Deciding.{Running, Met, Meetable, meets}
+use Rattle.admitting.specs.Deciding.{Met, Meetable, meets}
 use Rattle.admitting.specs.Admitting.{admits}
-use Rattle.admitting.proofs.Beyond.{beyond-queue}
+use Rattle.shelving.proofs.Beyond.{beyond-queue}
 use Rattle.admitting.proofs.Tallies.{pass-totals, tallied-after}
-
--- ---- between requests
-
-module _ {a : Tally} {t : Tables} {entry free : List ℕ} (h : Running a t entry free) where
-  limits : Bounded (a .settings)
-  limits = bounded (a .settings) (h .ranged)
-
-  pub live : Live (a .settings) (a .«files_kept») (a .«files_kept») t entry
-  live =
-      let few : a .«files_kept» ≤ a .settings .places .0 = omega (arith, h .sound .files, h .sound .shelf .files) in
-      let inside : (i : ℕ) → i < a .«files_kept» → getD (t .queue) i 0 < a .settings .places .0 = λ i b. h .sound .queued .entries i b .inside in
-      record {
-        places = limits .places .1;
-        catalogue = limits .catalogue .1;
-        long = h .long;
-        entry-long = h .entry-long;
-        few = few;
-        part = omega arith;
-        linked = h .sound .linked;
-        queued = h .sound .queued;
-        whole =
-            record {
-              fit =
-                  record {
-                    few = omega (arith, few, limits .places .1);
-                    long = omega (arith, few, h .long .queue);
-                    entries = λ i b. omega (arith, inside i b, h .entry-long);
-                    keyed = λ i b. omega (arith, inside i b, h .long .key);
-                    stamped = λ i b. omega (arith, inside i b, h .long .stamp);
-                  };
-              ordered = h .sound .ordered;
-              indexed = h .desk .indexed;
-            };
-      }
-
-  pub stack : Stack (a .settings) (a .«files_kept») t free
-  stack = record { long = h .free-long; spare = h .desk .spare }
-
-  -- whatever order the queue stands in
-  pub queue-stack : (queue′ : List ℕ) → Stack (a .settings) (a .«files_kept») (withQueue queue′ t) free
-  queue-stack queue′ =
-      stack-same (a .settings) (a .«files_kept») (a .«files_kept») t (withQueue queue′ t) entry entry live refl refl
-      (λ p _. record { file = refl; size = refl; cost = refl; freq = refl; key = refl; stamp = refl }) free stack
-
-  pub one-place : 1 ≤ a .settings .places .0
-  one-place = limits .places .0
-
-  -- the queue's bytes are the bytes kept
-  pub held-bytes : queueBytes (t .size) (t .queue) (a .«files_kept») ≡ a .«bytes_kept» .0
-  held-bytes =
-      sym (sum-covered (a .settings) t (t .queue) (a .«files_kept») (distinct (t .queue) entry (a .«files_kept») (h .desk .indexed)) (λ r. r .size) (a .«files_kept»)
-      (shelfOf (a .settings .catalogue .0) t) (omega arith) (shelf-covered (a .settings) (a .«files_kept») (a .«files_kept») t entry live))
-      ∙ h .sound .bytes
 
 -- ---- a request
 
@@ -126,32 +67,14 @@ module _ {a : Tally} {q : Request} {t : Tables} {entry free events : List ℕ} {
   pub countable : Countable a (q .size) (q .cost)
   countable = record { few = h .few; agreed = h .running .sound .agreed; valued = h .valued }
 
-  -- the request as the trace might hold it
-  ranged : Ranged cat q
-  ranged =
-      record {
-        file = h .known;
-        size = in-one-to sizeMost (q .size) (h .valued .size-least) (h .valued .size-most);
-        cost = le-leb (q .cost) costMost (h .valued .cost-most);
-      }
-
-  in-force : resolved q ≡ q
-  in-force =
-      let e : inForce (q .size) (q .cost) ≡ q .cost = in-force-some (q .size) (q .cost) (λ z. omega (arith, h .valued .cost-least)) in
-      λ i. record { file = q .file; size = q .size; cost = e i }
-
-  step-meets : step policy store (stateOf a t) q ≡ meets a q t
-  unfolding step
-  step-meets = ap (λ (r : Request). meet policy store (a .inflation .0) shelf (stampOf a) r (getD shelf (q .file) none)) in-force
-
   -- no key overflows, before the request and after it
   pub small-before : Small (stateOf a t)
   small-before = sound-small policy store (stateOf a t) (a .requests) sound (omega (arith, h .few))
 
   pub small-after : Small (meets a q t .state)
   small-after =
-      subst (λ (x : Served State). Small (x .state)) step-meets
-      (sound-small policy store _ (suc (a .requests)) (step-sound policy store (one-place (h .running)) (stateOf a t) (a .requests) sound q ranged) (omega (arith, h .few)))
+      sound-small policy store _ (suc (a .requests)) (meet-sound policy store (one-place (h .running)) (a .inflation .0) shelf (stampOf a) (a .requests) sound q (h .valued))
+      (omega (arith, h .few))
 
   -- a pass, for whatever reason: the queue may stand in another order
   abbrev pub passed : Pass → Served State

@@ -17,14 +17,14 @@ use Rattle.counting.specs.Counting.{after, tallied, hitTotals, passTotals, admi
 
 -- ---- the totals, by outcome
 
-pub hit-totals : (y : Totals) (size cost : ℕ) → hitTotals y size cost ≡ counted y (record { evicted = []; outcome = Hit; size = size; cost = cost })
+pub hit-totals : (y : Totals) (size cost : ℕ) → hitTotals y size cost ≡ counted y (record { dropped = none; evicted = []; outcome = Hit; size = size; cost = cost })
 hit-totals y size cost = simp add-zero
 
-pub pass-totals : (y : Totals) (size cost : ℕ) (w : Pass) → passTotals y size cost ≡ counted y (record { evicted = []; outcome = Passed w; size = size; cost = cost })
+pub pass-totals : (y : Totals) (size cost : ℕ) (w : Pass) → passTotals y size cost ≡ counted y (record { dropped = none; evicted = []; outcome = Passed w; size = size; cost = cost })
 pass-totals y size cost w = simp add-zero
 
 pub admit-totals : (y : Totals) (size cost : ℕ) (gone : List Gone)
-    → admitTotals y size cost (length gone) ≡ counted y (record { evicted = gone; outcome = Admitted; size = size; cost = cost })
+    → admitTotals y size cost (length gone) ≡ counted y (record { dropped = none; evicted = gone; outcome = Admitted; size = size; cost = cost })
 admit-totals y size cost gone = simp add-zero
 
 -- ---- what is kept

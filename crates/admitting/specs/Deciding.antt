@@ -1,39 +1,24 @@
--- What holds between requests, and how a request is decided (document 01, "The run", "Tables and the tally" and "Event list"). Assumes nothing.
+-- How a request is decided (document 01, "The run", "Tables and the tally" and "Event list"). Assumes nothing.
 use mathlib.Core.Path.{_≡_}
-use mathlib.Core.Bool.{true}
 use mathlib.Core.List.{List, map}
 use Prim.Native.Nat.{ℕ, _+_, _≤_, _<_}
 use lib.ListN.{length, getD}
 use lib.Seq.{sets}
 use Rattle.amounts.specs.Limits.{requestsMost}
-use Rattle.amounts.specs.Settings.{inRange}
 use Rattle.amounts.specs.Worth.{Valued}
 use Rattle.amounts.specs.Requests.{Request}
-use Rattle.amounts.specs.declared.settings.Settings.{Settings}
 use Rattle.method.specs.Shelf.{none}
 use Rattle.method.specs.Method.{State, Served, meet}
 use Rattle.method.specs.Events.{evict}
+use Rattle.method.specs.Totals.{copies}
 use Rattle.method.specs.declared.outcome.Outcome.{Outcome}
-use Rattle.tables.specs.Tables.{Tables, Long, shelfOf, beyond}
+use Rattle.tables.specs.Tables.{Tables, shelfOf}
 use Rattle.tables.specs.Tally.{storeOf, policyIn, stampOf}
-use Rattle.tables.specs.Sound.{Sound, Desk}
 use Rattle.tables.specs.declared.tally.Tally.{Tally}
 use Rattle.shelving.specs.Live.{Live, Stack}
+pub use Rattle.shelving.specs.Live.{Running, beyondOf}
 use Rattle.counting.specs.Counting.{after}
 use Rattle.admitting.specs.declared.untold.Untold.{Untold}
-
--- sound tables, with the call's own lists in step
-pub record Running (a : Tally) (t : Tables) (entry free : List ℕ) : Type 0 where
-  pub ranged : inRange (a .settings) ≡ true
-  pub long : Long (a .settings .places .0) (a .settings .catalogue .0) t
-  pub sound : Sound a t
-  pub desk : Desk a t entry free
-  pub entry-long : a .settings .places .0 ≤ length entry
-  pub free-long : a .settings .places .0 ≤ length free
-
--- what stands beyond the needed entries
-abbrev pub beyondOf : Settings → Tables → Tables
-beyondOf s t = beyond (s .places .0) (s .catalogue .0) t
 
 -- document 01, "The run": x is what the method gives; the outcome o, the tally b and what is left are the same, and the events es stand from `at` to `end`
 pub record Gives (a : Tally) (t : Tables) (events : List ℕ) (at : ℕ) (x : Served State) (es : List ℕ) (o : Outcome) (b : Tally) (end : ℕ) (u : Tables) (entry′ free′ events′ : List ℕ) : Type 0 where
@@ -41,7 +26,7 @@ pub record Gives (a : Tally) (t : Tables) (events : List ℕ) (at : ℕ) (x : Se
   pub tally : b ≡ after a x
   pub shelf : shelfOf (a .settings .catalogue .0) u ≡ x .state .shelf
   -- no more files go than were kept
-  pub few : length (x .reply .evicted) ≤ a .«files_kept»
+  pub few : copies (x .reply .dropped) + length (x .reply .evicted) ≤ a .«files_kept»
   pub written : events′ ≡ sets events at es
   pub count : end ≡ at + length es
   -- the index and the stack are the call's own, of no caller's memory: this is all that is ever read of them, the index at the places that the queue holds and the stack

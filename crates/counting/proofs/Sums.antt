@@ -8,7 +8,7 @@ use Rattle.counting.specs.Counting.{tallied}
 -- the totals with other sums
 abbrev pub withSums : Totals → ℕ → ℕ → ℕ → ℕ → Totals
 withSums y b h c d =
-    record { requests = y .requests; hits = y .hits; admitted = y .admitted; passed = y .passed; evicted = y .evicted; bytes = b; hitBytes = h; cost = c; hitCost = d }
+    record { requests = y .requests; hits = y .hits; admitted = y .admitted; passed = y .passed; evicted = y .evicted; dropped = y .dropped; bytes = b; hitBytes = h; cost = c; hitCost = d }
 
 -- a tally that keeps what a keeps, and whose sums are those of the totals y, has the totals y
 pub summed : (a : Tally) (y : Totals) {b h c d : ℕ} → b ≡ y .bytes → h ≡ y .hitBytes → c ≡ y .cost → d ≡ y .hitCost

@@ -25,6 +25,7 @@ tallied a l b n y =
       «hit_bytes» = record { 0 = y .hitBytes };
       «cost_asked» = record { 0 = y .cost };
       «hit_cost» = record { 0 = y .hitCost };
+      dropped = y .dropped;
     }
 
 -- document 01, "Tables and the tally": the tally after a request
@@ -40,6 +41,7 @@ hitTotals y size cost =
       admitted = y .admitted;
       passed = y .passed;
       evicted = y .evicted;
+      dropped = y .dropped;
       bytes = y .bytes + size;
       hitBytes = y .hitBytes + size;
       cost = y .cost + cost;
@@ -55,6 +57,7 @@ passTotals y size cost =
       admitted = y .admitted;
       passed = y .passed + 1;
       evicted = y .evicted;
+      dropped = y .dropped;
       bytes = y .bytes + size;
       hitBytes = y .hitBytes;
       cost = y .cost + cost;
@@ -70,6 +73,7 @@ admittedTotals y size cost evicted =
       admitted = y .admitted + 1;
       passed = y .passed;
       evicted = evicted;
+      dropped = y .dropped;
       bytes = y .bytes + size;
       hitBytes = y .hitBytes;
       cost = y .cost + cost;

@@ -48,14 +48,15 @@ small-decimal (suc k) n h l = go (below n 10) (small-decimal k (n / 10))
 
 kind-short : (k : ℕ) → length (kindWord k) ≤ 5
 unfolding kindWord
-kind-short k = go (eqb k 1) (eqb k 2) (eqb k 3) (eqb k 4)
+kind-short k = go (eqb k 1) (eqb k 2) (eqb k 3) (eqb k 4) (eqb k 6)
   where
-    go : (a b c d : Bool) → length (pick a word.hit (pick b word.admit (pick c word.big (pick d word.low word.evict)))) ≤ 5
-    go true b c d = omega arith
-    go false true c d = omega arith
-    go false false true d = omega arith
-    go false false false true = omega arith
-    go false false false false = omega arith
+    go : (a b c d e : Bool) → length (pick a word.hit (pick b word.admit (pick c word.big (pick d word.low (pick e word.stale word.evict))))) ≤ 5
+    go true b c d e = omega arith
+    go false true c d e = omega arith
+    go false false true d e = omega arith
+    go false false false true e = omega arith
+    go false false false false true = omega arith
+    go false false false false false = omega arith
 
 event-short : (e : ℕ) → length (eventLine e) ≤ 12
 event-short e =
@@ -77,7 +78,8 @@ page-short a es =
       item-short word.hits (a .hits) space 4 (omega arith),
       item-short word.admitted (a .admitted) space 8 (omega arith),
       item-short word.passed (a .passed) space 6 (omega arith),
-      item-short word.evicted (a .evicted) lineFeed 7 (omega arith),
+      item-short word.evicted (a .evicted) space 7 (omega arith),
+      item-short word.dropped (a .dropped) lineFeed 7 (omega arith),
       item-short word.bytes (a .«bytes_asked» .0) space 5 (omega arith),
       item-short word.hitbytes (a .«hit_bytes» .0) lineFeed 8 (omega arith),
       item-short word.cost (a .«cost_asked» .0) space 4 (omega arith),

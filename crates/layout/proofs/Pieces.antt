@@ -1,4 +1,4 @@
--- Sheets of document 01, computed from the definitions. Assumes nothing.
+-- Sheets of document 01 and of a recut, computed from the definitions. Assumes nothing.
 use Prim.Native.Nat.{ℕ}
 use mathlib.Core.Path.{_≡_, refl}
 use mathlib.Core.List.{List, [], _∷_, _++_}
@@ -16,7 +16,7 @@ use Rattle.lines.specs.Words.{ascii}
 use Rattle.layout.specs.Sheet.{sheetOf}
 use Rattle.lines.specs.Lines.{item, kindWord, page}
 
--- document 01, "The sheet": what is printed for the hex bytes
+-- document 01, "The sheet": what is printed for the hex bytes; document 02, ticket 2: `dropped` ends the line of the counts
 abbrev printed : List ℕ
 printed =
     ascii "unit 7\n"
@@ -28,7 +28,7 @@ printed =
     ++ ascii "evict 1\n"
     ++ ascii "admit 2\n"
     ++ ascii "big 4\n"
-    ++ ascii "requests 6 hits 1 admitted 4 passed 1 evicted 2\n"
+    ++ ascii "requests 6 hits 1 admitted 4 passed 1 evicted 2 dropped 0\n"
     ++ ascii "bytes 336 hitbytes 64\n"
     ++ ascii "cost 12 hitcost 4\n"
     ++ ascii "L 1048576 used 48 files 2\n"
@@ -36,6 +36,29 @@ printed =
 pub example : sheetOf sheet ≡ printed
 unfolding worthOf productOf packets inForce lowerOf oneTo run events totals step admit clear lowest sum readOf settingsOf decimal item kindWord page sheetOf
 example = refl
+
+-- document 02, ticket 2: the trace of the recut among the bench pieces; file 1 is cut anew, so `stale 1` stands before `evict 2`
+abbrev recutTrace : List ℕ
+recutTrace = 4 ∷ 1 ∷ 100 ∷ 4 ∷ 4 ∷ 1 ∷ 64 ∷ 4 ∷ 2 ∷ 32 ∷ 1 ∷ 1 ∷ 80 ∷ 5 ∷ 1 ∷ 80 ∷ 9 ∷ []
+
+-- its sheet; the hit counts the kept cost, 5
+abbrev recutPrinted : List ℕ
+recutPrinted =
+    ascii "unit 4\n"
+    ++ ascii "admit 1\n"
+    ++ ascii "admit 2\n"
+    ++ ascii "stale 1\n"
+    ++ ascii "evict 2\n"
+    ++ ascii "admit 1\n"
+    ++ ascii "hit 1\n"
+    ++ ascii "requests 4 hits 1 admitted 3 passed 0 evicted 1 dropped 1\n"
+    ++ ascii "bytes 256 hitbytes 80\n"
+    ++ ascii "cost 15 hitcost 5\n"
+    ++ ascii "L 524288 used 80 files 1\n"
+
+pub recut : sheetOf recutTrace ≡ recutPrinted
+unfolding worthOf productOf packets inForce lowerOf oneTo run events totals step admit clear lowest sum readOf settingsOf decimal item kindWord page sheetOf
+recut = refl
 
 -- a needless 0 in the unit; no bytes; policy 3 before 513 places; 513 places before a file out of range; a file out of range; a size of 0 before a number cut short
 pub refusals : (sheetOf (0x80 ∷ 0x00 ∷ []) ≡ ascii "refused 3\n")

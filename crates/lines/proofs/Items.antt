@@ -109,6 +109,11 @@ module _ (e : ℕ) where
         unfolding kindWord
         low-line h = rw (ne-eqb kind 1 h₁, ne-eqb kind 2 h₂, ne-eqb kind 3 h₃, eq-eqb kind 4 h)
 
-        pub evict-line : (kind ≡ 4 → ⊥) → Line word.evict
-        unfolding kindWord
-        evict-line h₄ = rw (ne-eqb kind 1 h₁, ne-eqb kind 2 h₂, ne-eqb kind 3 h₃, ne-eqb kind 4 h₄)
+        module _ (h₄ : kind ≡ 4 → ⊥) where
+          pub stale-line : kind ≡ 6 → Line word.stale
+          unfolding kindWord
+          stale-line h = rw (ne-eqb kind 1 h₁, ne-eqb kind 2 h₂, ne-eqb kind 3 h₃, ne-eqb kind 4 h₄, eq-eqb kind 6 h)
+
+          pub evict-line : (kind ≡ 6 → ⊥) → Line word.evict
+          unfolding kindWord
+          evict-line h₆ = rw (ne-eqb kind 1 h₁, ne-eqb kind 2 h₂, ne-eqb kind 3 h₃, ne-eqb kind 4 h₄, ne-eqb kind 6 h₆)

@@ -1,4 +1,4 @@
--- The lines of the sheet (document 01, "The sheet"). Assumes nothing.
+-- The lines of the sheet (document 01, "The sheet"; document 02, ticket 2). Assumes nothing.
 use Prim.Native.Nat.{ℕ, _/_, _%_}
 use mathlib.Core.List.{List, [], _∷_, _++_}
 use lib.Dec.{eqb}
@@ -16,9 +16,10 @@ item w n end = w ++ (space ∷ (decimal n ++ (end ∷ [])))
 abbrev pub refusedLine : ℕ → List ℕ
 refusedLine n = item word.refused n lineFeed
 
--- document 01, "Event list": 1 hit, 2 admit, 3 big, 4 low, 5 evict
+-- document 01, "Event list": 1 hit, 2 admit, 3 big, 4 low, 5 evict; document 02, ticket 2: 6 stale
 unfoldable pub kindWord : ℕ → List ℕ
-kindWord k = pick (eqb k 1) word.hit (pick (eqb k 2) word.admit (pick (eqb k 3) word.big (pick (eqb k 4) word.low word.evict)))
+kindWord k =
+    pick (eqb k 1) word.hit (pick (eqb k 2) word.admit (pick (eqb k 3) word.big (pick (eqb k 4) word.low (pick (eqb k 6) word.stale word.evict))))
 
 -- document 01, "The sheet": event lines give kind and file number, and an event is kind × 32,768 + file
 abbrev pub eventLine : ℕ → List ℕ
@@ -32,10 +33,11 @@ eventLines (e ∷ es) = eventLine e ++ eventLines es
 abbrev pub unitLine : Tally → List ℕ
 unitLine a = item word.unit (a .settings .unit .0) lineFeed
 
--- document 01, "The sheet": then come the tally's counts
+-- document 01, "The sheet": then come the tally's counts; document 02, ticket 2: what was dropped ends their line
 abbrev pub countsLine : Tally → List ℕ
 countsLine a =
-    item word.requests (a .requests) space ++ (item word.hits (a .hits) space ++ (item word.admitted (a .admitted) space ++ (item word.passed (a .passed) space ++ item word.evicted (a .evicted) lineFeed)))
+    item word.requests (a .requests) space ++ (item word.hits (a .hits) space ++ (item word.admitted (a .admitted) space ++ (item word.passed (a .passed) space
+    ++ (item word.evicted (a .evicted) space ++ item word.dropped (a .dropped) lineFeed))))
 
 -- document 01, "The sheet": what was asked, and what hits had of it
 abbrev pub askedLine : List ℕ → ℕ → List ℕ → ℕ → List ℕ

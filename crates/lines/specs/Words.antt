@@ -37,6 +37,10 @@ low = ascii "low"
 abbrev pub evict : List ℕ
 evict = ascii "evict"
 
+-- document 02, ticket 2: the kind of an old copy that was dropped
+abbrev pub stale : List ℕ
+stale = ascii "stale"
+
 -- document 01, "The sheet": the tally's counts
 abbrev pub requests : List ℕ
 requests = ascii "requests"
@@ -52,6 +56,10 @@ passed = ascii "passed"
 
 abbrev pub evicted : List ℕ
 evicted = ascii "evicted"
+
+-- document 02, ticket 2: the tally's count of old copies
+abbrev pub dropped : List ℕ
+dropped = ascii "dropped"
 
 -- document 01, "The sheet": bytes asked and hit bytes
 abbrev pub bytes : List ℕ

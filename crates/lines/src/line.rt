@@ -5,6 +5,7 @@ use method::ADMIT;
 use method::BIG;
 use method::HIT;
 use method::LOW;
+use method::STALE;
 ghost use lib.ListN.{take};
 ghost use Rattle.trace.specs.Stores.{Roomy, Laid};
 ghost use Rattle.lines.specs.Lines.{item, eventLine};
@@ -53,6 +54,9 @@ pub(crate) fn put_event(event: u32, out: &mut [u8], at: usize) -> usize
     }
     if kind == LOW {
         return put_item(b"low", file, b'\n', out, at);
+    }
+    if kind == STALE {
+        return put_item(b"stale", file, b'\n', out, at);
     }
     put_item(b"evict", file, b'\n', out, at)
 }

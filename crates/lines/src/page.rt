@@ -31,7 +31,8 @@ fn put_counts(a: Tally, out: &mut [u8], at: usize) -> usize
     let at_admitted = put_item(b"hits", a.hits, b' ', out, at_hits);
     let at_passed = put_item(b"admitted", a.admitted, b' ', out, at_admitted);
     let at_evicted = put_item(b"passed", a.passed, b' ', out, at_passed);
-    put_item(b"evicted", a.evicted, b'\n', out, at_evicted)
+    let at_dropped = put_item(b"evicted", a.evicted, b' ', out, at_evicted);
+    put_item(b"dropped", a.dropped, b'\n', out, at_dropped)
 }
 
 // The line of what was asked and of what hits had of it, from a place on; the place after it.

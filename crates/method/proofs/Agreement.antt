@@ -6,13 +6,13 @@ use native.Mathlib.Omega.{arith}
 use lib.ListN.{length, getD}
 use Rattle.amounts.specs.Worth.{Valued}
 use Rattle.amounts.specs.Requests.{Request, resolved, Ranged, AllRanged}
-use Rattle.method.specs.Shelf.{none, files}
+use Rattle.method.specs.Shelf.{none, Shelf, files, Each}
 use Rattle.method.specs.Method.{Policy, Settings, Reply, State, step, run}
-use Rattle.method.specs.Totals.{Totals, onHit, onAdmitted, onPassed, counted, totals, zeros, Amount, Agreed}
-use Rattle.method.specs.Promise.{SoundAt}
+use Rattle.method.specs.Totals.{Totals, onHit, onAdmitted, onPassed, copies, counted, totals, zeros, Amount, Agreed}
+use Rattle.method.specs.Promise.{Fine, SoundAt}
 use Rattle.method.specs.declared.outcome.Outcome.{Outcome}
 use Rattle.method.specs.declared.outcome.Outcome.the-variants.{Hit, Admitted, Passed}
-use Rattle.method.proofs.Cases.{meet-by}
+use Rattle.method.proofs.Cases.{meet-by, left, left-each}
 use Rattle.method.proofs.Counts.{step-counts}
 use Rattle.method.proofs.Sound.{resolved-valued, step-sound}
 
@@ -22,8 +22,10 @@ pub step-valued : (p : Policy) (c : Settings) (st : State) (n : ℕ) → SoundAt
 unfolding step
 step-valued p c st n h q w =
     let v : Valued (resolved q .size) (resolved q .cost) = resolved-valued (c .catalogue) q w in
-    meet-by p c (st .inflation) (st .shelf) (st .stamp) (resolved q) (λ x. Valued (x .reply .size) (x .reply .cost)) (λ _. v) (λ r e. h .fine (q .file) r e .valued) (λ _ _ _. v)
-    (λ _ _ _. v) (getD (st .shelf) (q .file) none) refl
+    let s : Shelf = left (st .shelf) (q .file) (q .size) in
+    let fine : Each (Fine p) s = left-each (st .shelf) (q .file) (q .size) (Fine p) (h .fine) in
+    meet-by p c (st .inflation) s (st .stamp) (resolved q) (λ x. Valued (x .reply .size) (x .reply .cost)) (λ _. v) (λ r e. fine (q .file) r e .valued) (λ _ _ _. v)
+    (λ _ _ _. v) (getD s (q .file) none) refl
 
 -- an outcome is one of the three
 one-kind : (o : Outcome) → onHit o 1 + onAdmitted o 1 + onPassed o 1 ≡ 1
@@ -39,10 +41,11 @@ amount-counted Admitted n l m g = record { hit-least = omega arith; hit-most = o
 amount-counted (Passed w) n l m g = record { hit-least = omega arith; hit-most = omega arith; hit-asked = omega arith; asked-least = omega arith; asked-most = omega arith }
 
 -- one reply counted
-pub counted-agreed : (k k′ : ℕ) (a : Reply) (y : Totals) → Valued (a .size) (a .cost) → length (a .evicted) + k′ ≡ k + onAdmitted (a .outcome) 1 → Agreed k y → Agreed k′ (counted y a)
+pub counted-agreed : (k k′ : ℕ) (a : Reply) (y : Totals) → Valued (a .size) (a .cost)
+    → copies (a .dropped) + length (a .evicted) + k′ ≡ k + onAdmitted (a .outcome) 1 → Agreed k y → Agreed k′ (counted y a)
 counted-agreed k k′ a y v e g = record {
   outcomes = omega (arith, one-kind (a .outcome), g .outcomes);
-  evicted = omega (arith, g .evicted);
+  gone = omega (arith, g .gone);
   bytes = amount-counted (a .outcome) (a .size) (v .size-least) (v .size-most) (g .bytes);
   cost = amount-counted (a .outcome) (a .cost) (v .cost-least) (v .cost-most) (g .cost);
 }
@@ -66,7 +69,7 @@ pub zeros-agreed : Agreed 0 zeros
 zeros-agreed =
     record {
       outcomes = refl;
-      evicted = refl;
+      gone = refl;
       bytes = record { hit-least = omega arith; hit-most = omega arith; hit-asked = omega arith; asked-least = omega arith; asked-most = omega arith };
       cost = record { hit-least = omega arith; hit-most = omega arith; hit-asked = omega arith; asked-least = omega arith; asked-most = omega arith };
     }

@@ -1,18 +1,20 @@
--- One request by cases: whatever holds of a hit, of a pass and of each policy's admission holds of the step. Assumes nothing.
+-- One request by cases: whatever holds of a hit, of a pass and of each policy's admission holds of the step; and what the old copy leaves. Assumes nothing.
 use mathlib.Core.List.{[]}
 use mathlib.Core.Path.{_≡_, refl}
 use mathlib.Core.Bool.{Bool, true, false}
-use Prim.Native.Nat.{ℕ, _≤_}
-use lib.Dec.{ltb}
-use borrow.Author.Tests.{ltb-false}
-use lib.ListN.{length, getD, set}
+use Prim.Native.Nat.{ℕ, _+_, _≤_}
+use native.Mathlib.Omega.{arith}
+use lib.Dec.{ltb, eqb}
+use borrow.Author.Tests.{ltb-false, eqb-false}
+use lib.ListN.{length, getD, set, length-set}
 use Rattle.amounts.specs.Limits.{pick}
 use Rattle.amounts.specs.Requests.{Request}
-use Rattle.method.specs.Shelf.{Kept, Slot, none, kept, Shelf}
-use Rattle.method.specs.Method.{Policy, gds, gdsf, Settings, beside, among, Cleared, clear, Served, State, newcomer, missed, served, hit, goes, settle, admit, meet}
+use Rattle.method.specs.Shelf.{Kept, Slot, none, kept, Shelf, weigh, sum, Each}
+use Rattle.method.specs.Method.{Policy, gds, gdsf, Settings, beside, among, Cleared, clear, Served, State, newcomer, missed, served, hit, goes, settle, admit, meet, oldCopy, dropOld}
 use Rattle.method.specs.declared.outcome.Pass.{Pass}
 use Rattle.method.specs.declared.outcome.Pass.the-variants.{TooBig, LowKey}
 use Rattle.method.specs.declared.outcome.Outcome.the-variants.{Admitted, Passed}
+use Rattle.method.proofs.Shelves.{none-kept, each-set, kept-lt, sum-set-eq}
 
 -- what each policy clears for the newcomer q
 abbrev pub room₁ : Settings → ℕ → Shelf → Request → Cleared
@@ -56,4 +58,40 @@ module _ (p : Policy) (c : Settings) (l : ℕ) (s : Shelf) (t : ℕ) (q : Reques
   meet-by none e =
       miss-by c l s t q P on-pass p (λ h. admit-by c l s t q P on-pass p (λ a. on-gds a e h) (λ a g. on-gdsf a e h)) (ltb (c .capacity) (q .size)) refl
 
--- ---- the step itself, by the slot of the file
+-- a request that is met drops no old copy
+pub meet-drops-none : (p : Policy) (c : Settings) (l : ℕ) (s : Shelf) (t : ℕ) (q : Request) → meet p c l s t q (getD s (q .file) none) .reply .dropped ≡ none
+meet-drops-none p c l s t q = meet-by p c l s t q (λ x. x .reply .dropped ≡ none) (λ _. refl) (λ _ _. refl) (λ _ _ _. refl) (λ _ _ _. refl) (getD s (q .file) none) refl
+
+-- ---- the old copy: none is kept, or a copy of the size asked for, or one of another size, which goes
+
+module _ (s : Shelf) (file size : ℕ) where
+  abbrev pub old : Slot
+  old = oldCopy size (getD s file none)
+
+  abbrev pub left : Shelf
+  left = dropOld file (oldCopy size (getD s file none)) s
+
+  -- what holds where nothing is dropped and where a copy of another size is holds in any case
+  module _ (P : Slot → Shelf → Type 0) (still : P none s) (drops : (r : Kept) → getD s file none ≡ kept r → (r .size ≡ size → ⊥) → P (kept r) (set s file none)) where
+    by-size : (r : Kept) → getD s file none ≡ kept r → (b : Bool) → eqb (r .size) size ≡ b → P (pick b none (kept r)) (dropOld file (pick b none (kept r)) s)
+    by-size r e true h = still
+    by-size r e false h = drops r e (eqb-false _ _ h)
+
+    by-slot : (x : Slot) → getD s file none ≡ x → P (oldCopy size x) (dropOld file (oldCopy size x) s)
+    by-slot none e = still
+    by-slot (kept r) e = by-size r e (eqb (r .size) size) refl
+
+    pub old-by : P old left
+    old-by = by-slot (getD s file none) refl
+
+  -- whatever is kept afterwards was kept before
+  pub left-each : (P : Kept → Type 0) → Each P s → Each P left
+  left-each P h = old-by (λ _ u. Each P u) h (λ r e ne. each-set P s file none (λ q z. none-kept z) h)
+
+  pub left-length : length left ≡ length s
+  left-length = old-by (λ _ u. length u ≡ length s) refl (λ r e ne. length-set s file none)
+
+  -- what is dropped and what is left weigh what was kept
+  pub left-sum : (f : Kept → ℕ) → weigh f old + sum f left ≡ sum f s
+  left-sum f = old-by (λ x u. weigh f x + sum f u ≡ sum f s) (omega arith)
+      (λ r e ne. let d : sum f (set s file none) + f r ≡ 0 + sum f s = rw e at (sum-set-eq f s file none (kept-lt s file r e)) in omega arith)

@@ -1,4 +1,4 @@
--- The counts agree: what is evicted and what is kept add up to what was kept and what is admitted. Assumes nothing.
+-- The counts agree: what is dropped, what is evicted and what is kept add up to what was kept and what is admitted. Assumes nothing.
 use mathlib.Core.Path.{_≡_, refl, _∙_}
 use mathlib.Core.List.{[], _∷_}
 use Prim.Native.Nat.{ℕ, zero, suc, _+_, _<_}
@@ -6,10 +6,10 @@ use native.Mathlib.Omega.{arith}
 use lib.ListN.{length, getD, set, length-set}
 use Rattle.amounts.specs.Requests.{Request, resolved}
 use Rattle.method.specs.Shelf.{Kept, Slot, none, kept, Shelf, files, Found, nothing, at}
-use Rattle.method.specs.Method.{Policy, Settings, Wanted, next, beside, among, Cleared, clear, Served, State, newcomer, hit, keyed, again, step}
-use Rattle.method.specs.Totals.{onAdmitted}
+use Rattle.method.specs.Method.{Policy, Settings, Wanted, next, beside, among, Cleared, clear, Served, State, newcomer, hit, keyed, again, meet, dropping, step}
+use Rattle.method.specs.Totals.{onAdmitted, copies}
 use Rattle.method.proofs.Shelves.{kept-lt, sum-set-eq}
-use Rattle.method.proofs.Cases.{room₁, admitted₁, admitted₂, meet-by}
+use Rattle.method.proofs.Cases.{room₁, admitted₁, admitted₂, meet-by, old, left, left-length, left-sum}
 use Rattle.method.proofs.Room.{next-at, clear-stop, clear-more, clear-keeps}
 
 count-turn : (c : Settings) (e : Wanted) (n : ℕ) → ((l : ℕ) (s : Shelf) → length (clear c e n l s .taken) + files (clear c e n l s .shelf) ≡ files s)
@@ -40,7 +40,7 @@ free-clear : (c : Settings) (e : Wanted) (f n k l : ℕ) (s : Shelf) → Free f 
 free-clear c e f n k l s h = clear-keeps c e (Free f n) (λ l s i r h g. (free-set s f i (h .0), length-set s i none ∙ h .1)) k l s h
 
 -- the evicted and the kept afterwards are n and the admitted
-abbrev pub Counts : ℕ → Served State → Type 0
+abbrev Counts : ℕ → Served State → Type 0
 Counts n x = length (x .reply .evicted) + files (x .state .shelf) ≡ n + onAdmitted (x .reply .outcome) 1
 
 module _ (p : Policy) (c : Settings) (l : ℕ) (s : Shelf) (t : ℕ) (q : Request) (b : q .file < length s) where
@@ -64,13 +64,22 @@ module _ (p : Policy) (c : Settings) (l : ℕ) (s : Shelf) (t : ℕ) (q : Reques
       let d : files (set s (q .file) y) + 0 ≡ 1 + files s = rw h at (sum-set-eq (λ r. 1) s (q .file) y b) in
       omega (arith, clear-counts c among (length s) l (set s (q .file) y))
 
--- what is evicted and what is kept are what was kept and what is admitted
+-- and so are they with the dropped, which was kept before
+abbrev pub CountsAll : ℕ → Served State → Type 0
+CountsAll n x = copies (x .reply .dropped) + length (x .reply .evicted) + files (x .state .shelf) ≡ n + onAdmitted (x .reply .outcome) 1
+
+counts-dropping : (n k : ℕ) (x : Slot) (y : Served State) → copies x + k ≡ n → Counts k y → CountsAll n (dropping x y)
+counts-dropping n k x y e h = omega (arith, e, h)
+
+-- what is dropped, what is evicted and what is kept are what was kept and what is admitted
 pub step-counts : (p : Policy) (c : Settings) (st : State) (q : Request) → q .file < length (st .shelf)
-    → Counts (files (st .shelf)) (step p c st q)
+    → CountsAll (files (st .shelf)) (step p c st q)
 unfolding step
 step-counts p c st q b =
     let l : ℕ = st .inflation in
-    let s : Shelf = st .shelf in
+    let s : Shelf = left (st .shelf) (q .file) (q .size) in
     let t : ℕ = st .stamp in
-    meet-by p c l s t (resolved q) (Counts (files s)) (λ w. omega arith) (counts-hit p c l s t (resolved q) b) (λ _ h _. counts₁ p c l s t (resolved q) b h)
-    (λ _ h _. counts₂ p c l s t (resolved q) b h) (getD s (q .file) none) refl
+    let b : q .file < length s = omega (arith, left-length (st .shelf) (q .file) (q .size)) in
+    counts-dropping (files (st .shelf)) (files s) (old (st .shelf) (q .file) (q .size)) (meet p c l s t (resolved q) (getD s (q .file) none)) (left-sum (st .shelf) (q .file) (q .size) (λ r. 1))
+    (meet-by p c l s t (resolved q) (Counts (files s)) (λ w. omega arith) (counts-hit p c l s t (resolved q) b) (λ _ h _. counts₁ p c l s t (resolved q) b h)
+    (λ _ h _. counts₂ p c l s t (resolved q) b h) (getD s (q .file) none) refl)

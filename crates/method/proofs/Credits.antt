@@ -12,9 +12,9 @@ use Rattle.amounts.specs.Order.{lowerOf}
 use Rattle.amounts.specs.Requests.{Request, resolved}
 use Rattle.method.specs.Shelf.{Kept, Slot, none, kept, Shelf, sum, Found, nothing, at, lower, lowest, Each}
 use Rattle.method.specs.Method.{Policy, gds, gdsf, Settings, Gone, Reply, Served, Wanted, fits, next, beside, among, Cleared, clear}
-use Rattle.method.specs.Method.{State, served, missed, again, goes, settle, admit, meet, step, fresh, Run, run}
+use Rattle.method.specs.Method.{State, served, missed, again, goes, settle, admit, meet, oldCopy, dropOld, dropping, step, fresh, Run, run}
 use Rattle.method.specs.Credit.{less, Drained, too, drain, Ledger, paid, credited, settleC, admitC, meetC, stepC, freshC}
-use Rattle.method.specs.Promise.{bare, plain, SameAsCredit}
+use Rattle.method.specs.Promise.{bare, bareCopy, plain, SameAsCredit}
 use Rattle.method.specs.declared.outcome.Pass.the-variants.{TooBig}
 use Rattle.method.specs.declared.outcome.Outcome.{Outcome}
 use Rattle.method.specs.declared.outcome.Outcome.the-variants.{Admitted, Passed}
@@ -154,7 +154,7 @@ same-served l s t u a b h g = record { state = ap (λ (v : Shelf). record { infl
 
 -- replies to a miss are the same where the evicted are
 same-missed : (q : Request) (o : Outcome) (gs hs : List Gone) → map bare gs ≡ map bare hs → plain (missed q gs o) ≡ plain (missed q hs o)
-same-missed q o gs hs e = ap (λ (k : List Gone). record { evicted = k; outcome = o; size = q .size; cost = q .cost }) e
+same-missed q o gs hs e = ap (λ (k : List Gone). record { dropped = none; evicted = k; outcome = o; size = q .size; cost = q .cost }) e
 
 module _ (c : Settings) (l : ℕ) (s : Shelf) (t : ℕ) (q : Request) where
   settle-credit : (x : Cleared) (y : Drained) → Agree x y → (a b : Bool) → a ≡ b → Same (settle l (map (raise l) s) t q x a) (settleC s t q y b)
@@ -191,9 +191,38 @@ module _ (c : Settings) (l : ℕ) (s : Shelf) (t : ℕ) (q : Request) where
   meet-credit p (kept r) = same-served l _ t (set s (q .file) (credited (r .size) (r .cost) (again p (r .freq)) t)) _ _ (raise-set l s (q .file) _) refl
   meet-credit p none = miss-credit p (ltb (c .capacity) (q .size))
 
+-- the old copy goes from both, told alike but for the key
+module _ (l file size : ℕ) where
+  old-raise : (x : Slot) → oldCopy size (raise l x) ≡ raise l (oldCopy size x)
+  old-raise none = refl
+  old-raise (kept r) = go (eqb (r .size) size)
+    where
+      go : (b : Bool) → _≡_ {A = Slot} (pick b none (kept (lift l r))) (raise l (pick b none (kept r)))
+      go true = refl
+      go false = refl
+
+  drop-raise : (s : Shelf) (x : Slot) → dropOld file (raise l x) (map (raise l) s) ≡ map (raise l) (dropOld file x s)
+  drop-raise s none = refl
+  drop-raise s (kept r) = raise-set l s file none
+
+bare-raise : (l : ℕ) (x : Slot) → bareCopy (raise l x) ≡ bareCopy x
+bare-raise l none = refl
+bare-raise l (kept r) = refl
+
+same-dropping : (l : ℕ) (x : Slot) (y : Served State) (z : Served Ledger) → Same y z → Same (dropping (raise l x) y) (dropping x z)
+same-dropping l x y z h =
+    let a = h .reply in
+    record { state = h .state; reply = λ i. record { dropped = bare-raise l x i; evicted = (a i) .evicted; outcome = (a i) .outcome; size = (a i) .size; cost = (a i) .cost } }
+
 step-credit : (p : Policy) (c : Settings) (l : ℕ) (d : Ledger) (q : Request) → Same (step p c (lifted l d) q) (stepC p c d q)
 unfolding step stepC
-step-credit p c l d q = rw (List·getD-map (raise l) (d .shelf) (q .file) none) (meet-credit c l (d .shelf) (d .stamp) (resolved q) p (getD (d .shelf) (q .file) none))
+step-credit p c l d q =
+    let x : Slot = oldCopy (q .size) (getD (d .shelf) (q .file) none) in
+    let s : Shelf = dropOld (q .file) x (d .shelf) in
+    let there = List·getD-map (raise l) (d .shelf) (q .file) none in
+    let old = old-raise l (q .file) (q .size) (getD (d .shelf) (q .file) none) in
+    rw (there, old, drop-raise l (q .file) (q .size) (d .shelf) x, List·getD-map (raise l) s (q .file) none)
+    (same-dropping l x _ _ (meet-credit c l s (d .stamp) (resolved q) p (getD s (q .file) none)))
 
 -- ---- a run
 

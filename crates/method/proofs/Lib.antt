@@ -7,4 +7,5 @@ pub mod Sound
 pub mod Credits
 pub mod Agreement
 pub mod Runs
+pub mod Recuts
 pub mod Demand

@@ -8,16 +8,16 @@ use lib.Dec.{eqb}
 use borrow.Author.Tests.{eq-eqb}
 use lib.ListN.{length, getD, set, length-append, length-map}
 use Rattle.amounts.specs.Requests.{Request, resolved, AllRanged}
-use Rattle.method.specs.Shelf.{Kept, none, Shelf, files, Found, nothing, at}
+use Rattle.method.specs.Shelf.{Kept, Slot, none, kept, Shelf, files, Found, nothing, at}
 use Rattle.method.specs.Method.{Policy, Settings, Gone, Reply, Served, Wanted, next, Cleared, also, clear, State, goes, step, run}
-use Rattle.method.specs.Events.{entries, events}
-use Rattle.method.specs.Totals.{onAdmitted}
+use Rattle.method.specs.Events.{stale, entries, events}
+use Rattle.method.specs.Totals.{onAdmitted, copies}
 use Rattle.method.specs.Promise.{SoundAt}
 use Rattle.method.specs.declared.outcome.Outcome.{Outcome}
 use Rattle.method.specs.declared.outcome.Outcome.the-variants.{Hit, Admitted, Passed}
 use Rattle.method.proofs.Shelves.{sum-set}
 use Rattle.method.proofs.Room.{next-at, clear-stop, clear-more}
-use Rattle.method.proofs.Cases.{meet-by}
+use Rattle.method.proofs.Cases.{meet-by, left}
 use Rattle.method.proofs.Counts.{step-counts}
 use Rattle.method.proofs.Sound.{step-sound}
 
@@ -84,8 +84,8 @@ goes-here f r b = rw (eq-eqb f f refl)
 pub step-stamp : (p : Policy) (c : Settings) (st : State) (q : Request) → step p c st q .state .stamp ≡ suc (st .stamp)
 unfolding step
 step-stamp p c st q =
-    meet-by p c (st .inflation) (st .shelf) (st .stamp) (resolved q) (λ x. x .state .stamp ≡ suc (st .stamp)) (λ _. refl) (λ _ _. refl) (λ _ _ _. refl) (λ _ _ _. refl)
-    (getD (st .shelf) (q .file) none) refl
+    let s : Shelf = left (st .shelf) (q .file) (q .size) in
+    meet-by p c (st .inflation) s (st .stamp) (resolved q) (λ x. x .state .stamp ≡ suc (st .stamp)) (λ _. refl) (λ _ _. refl) (λ _ _ _. refl) (λ _ _ _. refl) (getD s (q .file) none) refl
 
 pub run-stamp : (p : Policy) (c : Settings) (st : State) (qs : List Request) → run (step p c) st qs .state .stamp ≡ st .stamp + length qs
 unfolding run
@@ -99,13 +99,17 @@ run-replies f st (q ∷ qs) = ap suc (run-replies f (f st q .state) qs)
 
 -- ---- the length of the event list
 
-at-most-one : (o : Outcome) → onAdmitted o 1 ≤ 1
+pub at-most-one : (o : Outcome) → onAdmitted o 1 ≤ 1
 at-most-one Hit = omega arith
 at-most-one Admitted = omega arith
 at-most-one (Passed w) = omega arith
 
-pub length-entries : (q : Request) (a : Reply) → length (entries q a) ≡ suc (length (a .evicted))
-length-entries q a = simp (length-append, length-map) (omega arith)
+pub length-stale : (file : ℕ) (x : Slot) → length (stale file x) ≡ copies x
+length-stale file none = refl
+length-stale file (kept r) = refl
+
+pub length-entries : (q : Request) (a : Reply) → length (entries q a) ≡ suc (copies (a .dropped) + length (a .evicted))
+length-entries q a = simp (length-append, length-map) (omega (arith, length-stale (q .file) (a .dropped)))
 
 -- 2 × requests + files kept before is always enough
 pub events-length : (p : Policy) (c : Settings) → 1 ≤ c .places → (st : State) (n : ℕ) → SoundAt p c st n → (qs : List Request) → AllRanged (c .catalogue) qs
@@ -114,5 +118,8 @@ unfolding run events
 events-length p c one st n h [] v = omega arith
 events-length p c one st n h (q ∷ qs) v =
     let x : Served State = step p c st q in
-    let d : length (x .reply .evicted) + files (x .state .shelf) ≡ files (st .shelf) + onAdmitted (x .reply .outcome) 1 = step-counts p c st q (omega (arith, h .slots, v .0 .file)) in
-    omega (arith, events-length p c one (x .state) (suc n) (step-sound p c one st n h q (v .0)) qs (v .1), at-most-one (x .reply .outcome), length-entries q (x .reply), length-append (entries q (x .reply)) (events qs (run (step p c) (x .state) qs .replies)))
+    let d : copies (x .reply .dropped) + length (x .reply .evicted) + files (x .state .shelf) ≡ files (st .shelf) + onAdmitted (x .reply .outcome) 1 =
+    step-counts p c st q (omega (arith, h .slots, v .0 .file)) in
+    let rest = events-length p c one (x .state) (suc n) (step-sound p c one st n h q (v .0)) qs (v .1) in
+    let joined = length-append (entries q (x .reply)) (events qs (run (step p c) (x .state) qs .replies)) in
+    omega (arith, rest, joined, at-most-one (x .reply .outcome), length-entries q (x .reply))

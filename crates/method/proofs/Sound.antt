@@ -11,11 +11,11 @@ use Rattle.amounts.specs.Requests.{Request, resolved, Ranged, AllRanged}
 use Rattle.amounts.proofs.Tests.{one-to}
 use Rattle.amounts.proofs.Values.{product-most, product-more, product-rises, in-force-valued}
 use Rattle.method.specs.Shelf.{Kept, Slot, none, kept, Shelf, sum, bytes, files, product, at, Each}
-use Rattle.method.specs.Method.{Policy, gds, gdsf, Settings, Wanted, beside, among, Cleared, clear, State, hit, keyed, again, newcomer, step, fresh, run}
+use Rattle.method.specs.Method.{Policy, gds, gdsf, Settings, Wanted, beside, among, Cleared, clear, State, hit, keyed, again, newcomer, meet, step, fresh, run}
 use Rattle.method.specs.Promise.{Set, Apart, Once, Fine, Sound, SoundAt}
 use Rattle.method.proofs.Shelves.{Good, none-kept, is-kept, each-set, sum-set, files-le, at-set, not-lower-key}
 use Rattle.method.proofs.Room.{clear-keeps, Fits, clear-fits}
-use Rattle.method.proofs.Cases.{room₁, room₂, admitted₁, admitted₂, meet-by}
+use Rattle.method.proofs.Cases.{room₁, room₂, admitted₁, admitted₂, meet-by, left, old-by}
 
 -- ---- stamps
 
@@ -166,16 +166,37 @@ module _ (p : Policy) (c : Settings) (one : 1 ≤ c .places) (l : ℕ) (s : Shel
 pub resolved-valued : (k : ℕ) (q : Request) → Ranged k q → Valued (resolved q .size) (resolved q .cost)
 resolved-valued k q v = in-force-valued (q .size) (q .cost) (v .size) (v .cost)
 
+-- a request with its cost in force, met at the shelf as it stands
+pub meet-sound : (p : Policy) (c : Settings) → 1 ≤ c .places → (l : ℕ) (s : Shelf) (t n : ℕ) → Sound p c l s t n → (q : Request) → Valued (q .size) (q .cost)
+    → SoundAt p c (meet p c l s t q (getD s (q .file) none) .state) (suc n)
+meet-sound p c one l s t n h q v =
+    meet-by p c l s t q (λ x. SoundAt p c (x .state) (suc n)) (λ _. sound-pass p c one l s t n h q v) (sound-hit p c one l s t n h q v)
+    (λ _ _ small. sound₁ p c one l s t n h q v small) (λ _ _ _. sound₂ p c one l s t n h q v) (getD s (q .file) none) refl
+
+-- a file dropped: L stays, and what is left is sound
+pub drop-sound : (p : Policy) (c : Settings) (l : ℕ) (s : Shelf) (t n : ℕ) → Sound p c l s t n → (i : ℕ) → Sound p c l (set s i none) t n
+drop-sound p c l s t n h i =
+    record {
+      slots = length-set s i none ∙ h .slots;
+      bytes = omega (arith, sum-set (λ r. r .size) s i none, h .bytes);
+      files = omega (arith, sum-set (λ r. 1) s i none, h .files);
+      fine = each-set _ s i none (λ q z. none-kept z) (h .fine);
+      stamps = each-set _ s i none (λ q z. none-kept z) (h .stamps);
+      apart = apart-none s i (h .apart);
+      freqs = omega (arith, sum-set (λ r. r .freq) s i none, h .freqs);
+      keys = each-set _ s i none (λ q z. none-kept z) (h .keys);
+      total = omega (arith, sum-set product s i none, h .total);
+    }
+
 pub step-sound : (p : Policy) (c : Settings) → 1 ≤ c .places → (st : State) (n : ℕ) → SoundAt p c st n → (q : Request) → Ranged (c .catalogue) q
     → SoundAt p c (step p c st q .state) (suc n)
 unfolding step
 step-sound p c one st n h q w =
     let l : ℕ = st .inflation in
-    let s : Shelf = st .shelf in
     let t : ℕ = st .stamp in
-    let v : Valued (resolved q .size) (resolved q .cost) = resolved-valued (c .catalogue) q w in
-    meet-by p c l s t (resolved q) (λ x. SoundAt p c (x .state) (suc n)) (λ _. sound-pass p c one l s t n h (resolved q) v) (sound-hit p c one l s t n h (resolved q) v)
-    (λ _ _ small. sound₁ p c one l s t n h (resolved q) v small) (λ _ _ _. sound₂ p c one l s t n h (resolved q) v) (getD s (q .file) none) refl
+    let k : Sound p c l (left (st .shelf) (q .file) (q .size)) t n =
+    old-by (st .shelf) (q .file) (q .size) (λ _ s. Sound p c l s t n) h (λ _ _ _. drop-sound p c l (st .shelf) t n h (q .file)) in
+    meet-sound p c one l (left (st .shelf) (q .file) (q .size)) t n k (resolved q) (resolved-valued (c .catalogue) q w)
 
 -- ---- a run, from any sound state and from a fresh start
 

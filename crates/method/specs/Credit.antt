@@ -8,7 +8,7 @@ use Rattle.amounts.specs.Limits.{pick}
 use Rattle.amounts.specs.Worth.{productOf}
 use Rattle.amounts.specs.Requests.{Request, resolved}
 use Rattle.method.specs.Shelf.{Kept, Slot, none, kept, Shelf, nothing, at}
-use Rattle.method.specs.Method.{Policy, gds, gdsf, Settings, Gone, Reply, Served, Wanted, next, beside, among, missed, again, goes}
+use Rattle.method.specs.Method.{Policy, gds, gdsf, Settings, Gone, Reply, Served, Wanted, next, beside, among, missed, again, goes, oldCopy, dropOld, dropping}
 use Rattle.method.specs.declared.outcome.Pass.the-variants.{TooBig, LowKey}
 use Rattle.method.specs.declared.outcome.Outcome.the-variants.{Hit, Admitted, Passed}
 
@@ -61,11 +61,15 @@ admitC gdsf c s t q =
 abbrev pub meetC : Policy → Settings → Shelf → ℕ → Request → Slot → Served Ledger
 meetC p c s t q (kept r) =
     paid (set s (q .file) (credited (r .size) (r .cost) (again p (r .freq)) t)) t
-    (record { evicted = []; outcome = Hit; size = r .size; cost = r .cost })
+    (record { dropped = none; evicted = []; outcome = Hit; size = r .size; cost = r .cost })
 meetC p c s t q none = pick (ltb (c .capacity) (q .size)) (paid s t (missed q [] (Passed TooBig))) (admitC p c s t q)
 
+-- document 02, ticket 2: the old copy is dropped and its credit simply gone; then the request goes on
 unfoldable pub stepC : Policy → Settings → Ledger → Request → Served Ledger
-stepC p c d q = meetC p c (d .shelf) (d .stamp) (resolved q) (getD (d .shelf) (q .file) none)
+stepC p c d q =
+    let x = oldCopy (q .size) (getD (d .shelf) (q .file) none) in
+    let s = dropOld (q .file) x (d .shelf) in
+    dropping x (meetC p c s (d .stamp) (resolved q) (getD s (q .file) none))
 
 abbrev pub freshC : Settings → Ledger
 freshC c = record { shelf = replicate (c .catalogue) none; stamp = 0 }

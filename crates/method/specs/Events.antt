@@ -1,8 +1,9 @@
--- The event list (document 01, "Event list"). Assumes nothing.
+-- The event list (document 01, "Event list"; document 02, ticket 2). Assumes nothing.
 use mathlib.Core.List.{List, [], _∷_, _++_, map}
 use Prim.Native.Nat.{ℕ, _+_, _*_}
 use Rattle.amounts.specs.Limits.{catalogueMost}
 use Rattle.amounts.specs.Requests.{Request}
+use Rattle.method.specs.Shelf.{Slot, none, kept}
 use Rattle.method.specs.Method.{Gone, Reply}
 use Rattle.method.specs.declared.outcome.Pass.the-variants.{TooBig, LowKey}
 use Rattle.method.specs.declared.outcome.Outcome.{Outcome}
@@ -23,9 +24,18 @@ kind (Passed LowKey) = 4
 abbrev pub evict : Gone → ℕ
 evict g = event 5 (g .file)
 
+-- document 02, ticket 2: 6 stale, for the old copy that a request for the file dropped
+abbrev pub stale : ℕ → Slot → List ℕ
+stale file none = []
+stale file (kept r) = event 6 file ∷ []
+
 -- a request's evictions come first, in order, then its own entry
+abbrev pub answered : Request → Reply → List ℕ
+answered q a = map evict (a .evicted) ++ event (kind (a .outcome)) (q .file) ∷ []
+
+-- document 02, ticket 2: its stale copy comes before its evictions
 abbrev pub entries : Request → Reply → List ℕ
-entries q a = map evict (a .evicted) ++ event (kind (a .outcome)) (q .file) ∷ []
+entries q a = stale (q .file) (a .dropped) ++ answered q a
 
 unfoldable pub events : List Request → List Reply → List ℕ
 events [] bs = []

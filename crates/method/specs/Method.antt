@@ -29,8 +29,9 @@ pub record Gone : Type 0 where
   pub file : ℕ
   pub was : Kept
 
--- what a request gives: the evicted in order, its outcome, and the size and cost that it is counted with
+-- what a request gives: the old copy that it dropped, if any; the evicted in order; its outcome; and the size and cost that it is counted with
 pub record Reply : Type 0 where
+  pub dropped : Slot
   pub evicted : List Gone
   pub outcome : Outcome
   pub size : ℕ
@@ -92,7 +93,7 @@ served l s t a = record { state = record { inflation = l; shelf = s; stamp = suc
 
 -- a miss is counted with the request's size and cost
 abbrev pub missed : Request → List Gone → Outcome → Reply
-missed q e o = record { evicted = e; outcome = o; size = q .size; cost = q .cost }
+missed q e o = record { dropped = none; evicted = e; outcome = o; size = q .size; cost = q .cost }
 
 -- document 001, section 5, (1): key = L + frequency × worth
 abbrev pub keyed : ℕ → ℕ → ℕ → ℕ → ℕ → Kept
@@ -111,7 +112,7 @@ again gdsf f = suc f
 abbrev pub hit : Policy → ℕ → Shelf → ℕ → ℕ → Kept → Served State
 hit p l s t file r =
     served l (set s file (kept (keyed l (r .size) (r .cost) (again p (r .freq)) t))) t
-    (record { evicted = []; outcome = Hit; size = r .size; cost = r .cost })
+    (record { dropped = none; evicted = []; outcome = Hit; size = r .size; cost = r .cost })
 
 abbrev pub goes : ℕ → List Gone → Bool
 goes file [] = false
@@ -135,14 +136,33 @@ admit gdsf c l s t q =
 abbrev pub miss : Policy → Settings → ℕ → Shelf → ℕ → Request → Served State
 miss p c l s t q = pick (ltb (c .capacity) (q .size)) (served l s t (missed q [] (Passed TooBig))) (admit p c l s t q)
 
--- told by the file number alone
+-- told by the file number alone, once no copy of another size is kept
 abbrev pub meet : Policy → Settings → ℕ → Shelf → ℕ → Request → Slot → Served State
 meet p c l s t q (kept r) = hit p l s t (q .file) r
 meet p c l s t q none = miss p c l s t q
 
--- one request: its cost is resolved before anything else
+-- document 02, ticket 2: the old copy, where the size asked for differs from the kept one
+abbrev pub oldCopy : ℕ → Slot → Slot
+oldCopy size none = none
+oldCopy size (kept r) = pick (eqb (r .size) size) none (kept r)
+
+-- document 02, ticket 2: the shelf without the old copy of a file, if there is one
+abbrev pub dropOld : ℕ → Slot → Shelf → Shelf
+dropOld file none s = s
+dropOld file (kept r) s = set s file none
+
+-- document 02, ticket 2: the old copy is told with what the request gives then
+abbrev pub dropping : {S : Type 0} → Slot → Served S → Served S
+dropping x y =
+    let a = y .reply in
+    record { state = y .state; reply = record { dropped = x; evicted = a .evicted; outcome = a .outcome; size = a .size; cost = a .cost } }
+
+-- one request: its cost is resolved before anything else; then the old copy is dropped and L stays (document 02, ticket 2), and the request goes on without it
 unfoldable pub step : Policy → Settings → State → Request → Served State
-step p c st q = meet p c (st .inflation) (st .shelf) (st .stamp) (resolved q) (getD (st .shelf) (q .file) none)
+step p c st q =
+    let x = oldCopy (q .size) (getD (st .shelf) (q .file) none) in
+    let s = dropOld (q .file) x (st .shelf) in
+    dropping x (meet p c (st .inflation) s (st .stamp) (resolved q) (getD s (q .file) none))
 
 -- document 01, "The run": L starts at 0, and nothing is kept
 abbrev pub fresh : Settings → State

@@ -7,7 +7,7 @@ use lib.ListN.{length, getD}
 use Rattle.amounts.specs.Limits.{isCapacity, isPlaces, isCatalogue, requestsMost, word}
 use Rattle.amounts.specs.Worth.{Valued, worthMost}
 use Rattle.amounts.specs.Requests.{Request, AllRanged}
-use Rattle.method.specs.Shelf.{Kept, none, kept, Shelf, sum, bytes, files, product, Each}
+use Rattle.method.specs.Shelf.{Kept, Slot, none, kept, Shelf, sum, bytes, files, product, Each}
 use Rattle.method.specs.Method.{Policy, gds, gdsf, Settings, Gone, Reply, State, Run, run, step, fresh}
 use Rattle.method.specs.Events.{events}
 use Rattle.method.specs.Totals.{totals, zeros, Agreed}
@@ -57,18 +57,23 @@ pub record Small (st : State) : Type 0 where
   pub inflation : st .inflation + sum product (st .shelf) < word
   pub keys : Each (λ r. r .key < word) (st .shelf)
 
--- what an eviction says but for the key, which is a credit in the plain method
+-- what was kept of a file but for the key, which is a credit in the plain method
+abbrev pub keyless : Kept → Kept
+keyless r = record { size = r .size; cost = r .cost; freq = r .freq; key = 0; stamp = r .stamp }
+
+-- what an eviction says but for the key
 abbrev pub bare : Gone → Gone
-bare g =
-    record {
-      file = g .file;
-      was = record { size = g .was .size; cost = g .was .cost; freq = g .was .freq; key = 0; stamp = g .was .stamp };
-    }
+bare g = record { file = g .file; was = keyless (g .was) }
+
+-- what an old copy says but for the key
+abbrev pub bareCopy : Slot → Slot
+bareCopy none = none
+bareCopy (kept r) = kept (keyless r)
 
 abbrev pub plain : Reply → Reply
-plain a = record { evicted = map bare (a .evicted); outcome = a .outcome; size = a .size; cost = a .cost }
+plain a = record { dropped = bareCopy (a .dropped); evicted = map bare (a .evicted); outcome = a .outcome; size = a .size; cost = a .cost }
 
--- the same outcomes, and the same files evicted in the same order; and each key less the inflation is the credit
+-- the same outcomes, the same old copies dropped, and the same files evicted in the same order; and each key less the inflation is the credit
 pub record SameAsCredit (x : Run State) (y : Run Ledger) : Type 0 where
   pub replies : map plain (x .replies) ≡ map plain (y .replies)
   pub credits : map (less (x .state .inflation)) (x .state .shelf) ≡ y .state .shelf

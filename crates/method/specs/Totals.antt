@@ -1,9 +1,10 @@
--- The totals of a tally, from the replies (document 01, "Tables and the tally"). Assumes nothing.
+-- The totals of a tally, from the replies (document 01, "Tables and the tally"; document 02, ticket 2). Assumes nothing.
 use mathlib.Core.Path.{_≡_}
 use mathlib.Core.List.{List, [], _∷_}
 use Prim.Native.Nat.{ℕ, _+_, _*_, _≤_}
 use lib.ListN.{length}
 use Rattle.amounts.specs.Limits.{sizeMost, costMost}
+use Rattle.method.specs.Shelf.{Slot, weigh}
 use Rattle.method.specs.Method.{Reply}
 use Rattle.method.specs.declared.outcome.Outcome.{Outcome}
 use Rattle.method.specs.declared.outcome.Outcome.the-variants.{Hit, Admitted, Passed}
@@ -14,6 +15,7 @@ pub record Totals : Type 0 where
   pub admitted : ℕ
   pub passed : ℕ
   pub evicted : ℕ
+  pub dropped : ℕ
   pub bytes : ℕ
   pub hitBytes : ℕ
   pub cost : ℕ
@@ -35,6 +37,10 @@ onPassed Hit n = 0
 onPassed Admitted n = 0
 onPassed (Passed w) n = n
 
+-- document 02, ticket 2: 1 where an old copy was dropped
+abbrev pub copies : Slot → ℕ
+copies x = weigh (λ r. 1) x
+
 -- one reply counted
 abbrev pub counted : Totals → Reply → Totals
 counted y a =
@@ -44,6 +50,7 @@ counted y a =
       admitted = y .admitted + onAdmitted (a .outcome) 1;
       passed = y .passed + onPassed (a .outcome) 1;
       evicted = y .evicted + length (a .evicted);
+      dropped = y .dropped + copies (a .dropped);
       bytes = y .bytes + a .size;
       hitBytes = y .hitBytes + onHit (a .outcome) (a .size);
       cost = y .cost + a .cost;
@@ -57,7 +64,7 @@ totals y (a ∷ bs) = totals (counted y a) bs
 
 -- a fresh start's
 abbrev pub zeros : Totals
-zeros = record { requests = 0; hits = 0; admitted = 0; passed = 0; evicted = 0; bytes = 0; hitBytes = 0; cost = 0; hitCost = 0 }
+zeros = record { requests = 0; hits = 0; admitted = 0; passed = 0; evicted = 0; dropped = 0; bytes = 0; hitBytes = 0; cost = 0; hitCost = 0 }
 
 -- document 01, "Tables and the tally": hits ≤ hit bytes ≤ hits × most, hit bytes ≤ bytes asked, requests ≤ bytes asked ≤ requests × most; likewise for cost
 pub record Amount (most hits requests part whole : ℕ) : Type 0 where
@@ -70,6 +77,7 @@ pub record Amount (most hits requests part whole : ℕ) : Type 0 where
 -- document 01, "Tables and the tally": what soundness asks of the totals, with so many files kept
 pub record Agreed (kept : ℕ) (y : Totals) : Type 0 where
   pub outcomes : y .hits + y .admitted + y .passed ≡ y .requests
-  pub evicted : y .evicted + kept ≡ y .admitted
+  -- document 02, ticket 2: evicted + dropped + files kept = admitted
+  pub gone : y .evicted + y .dropped + kept ≡ y .admitted
   pub bytes : Amount sizeMost (y .hits) (y .requests) (y .hitBytes) (y .bytes)
   pub cost : Amount costMost (y .hits) (y .requests) (y .hitCost) (y .cost)

@@ -1,4 +1,4 @@
-// The event list: one number each, kind and file (document 01, "Event list").
+// The event list: one number each, kind and file (document 01, "Event list"; document 02, ticket 2).
 use crate::outcome::Outcome;
 use crate::outcome::Pass;
 use amounts::Catalogue;
@@ -18,6 +18,8 @@ pub const LOW: u32 = 4;
 
 pub const EVICT: u32 = 5;
 
+pub const STALE: u32 = 6;
+
 impl Outcome {
     // The kind of a request's own entry.
     pub fn kind(self) -> u32
@@ -36,7 +38,7 @@ impl Outcome {
 
 // An entry of the event list.
 pub fn event(kind: u32, file: usize) -> u32
-    requires { ⌜ (kind ≤ 5) × (file < catalogueMost) ⌝ }
+    requires { ⌜ (kind ≤ 6) × (file < catalogueMost) ⌝ }
     ensures { λ r. ⌜ r ≡ events.event kind file ⌝ }
 {
     kind * (Catalogue::MOST as u32) + file as u32

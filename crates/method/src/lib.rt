@@ -7,6 +7,7 @@ pub use events::BIG;
 pub use events::EVICT;
 pub use events::HIT;
 pub use events::LOW;
+pub use events::STALE;
 pub use events::event;
 pub use outcome::Outcome;
 pub use outcome::Pass;

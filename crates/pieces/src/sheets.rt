@@ -64,3 +64,11 @@ pub(crate) fn one_place() {
     let costs = [1u16, 1, 1, 1];
     print_sheet(settings(2, 100, 1), &files, &sizes, &costs);
 }
+
+// A recut drops the old copy before it evicts; asked for again, it is a hit at the cost that is kept.
+pub(crate) fn recut() {
+    let files = [1u16, 2, 1, 1];
+    let sizes = [64u32, 32, 80, 80];
+    let costs = [4u16, 1, 5, 9];
+    print_sheet(settings(4, 100, 4), &files, &sizes, &costs);
+}

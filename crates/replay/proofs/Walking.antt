@@ -14,10 +14,8 @@ use Rattle.amounts.proofs.Tests.{in-one-to}
 use Rattle.method.specs.Shelf.{files, bytes}
 use Rattle.method.specs.Method.{State, Served, Run, run, step}
 use Rattle.method.specs.Events.{entries, events}
-use Rattle.method.specs.Totals.{Totals, totals, onAdmitted}
-use Rattle.method.specs.declared.outcome.Outcome.{Outcome}
-use Rattle.method.specs.declared.outcome.Outcome.the-variants.{Hit, Admitted, Passed}
-use Rattle.method.proofs.Runs.{length-entries}
+use Rattle.method.specs.Totals.{Totals, totals, onAdmitted, copies}
+use Rattle.method.proofs.Runs.{at-most-one, length-entries}
 use Rattle.method.proofs.Counts.{step-counts}
 use Rattle.trace.specs.Reading.{good, readOf}
 use Rattle.trace.specs.Steps.{Requested, RequestAt, First}
@@ -36,6 +34,7 @@ use Rattle.replay.specs.Parts.{runFrom, eventsOf, Ready, PartServed}
 use Rattle.replay.specs.declared.part.Ended.{Ended}
 use Rattle.serving.specs.declared.step.Step.{Step}
 use Rattle.serving.proofs.Runnings.{next-state}
+use Rattle.serving.proofs.Writing.{sets-append}
 
 -- the loop's head: what is left of the run makes of what stands now what the whole makes of what stood at entry
 pub record Walk (a : Tally) (part : List ℕ) (count : ℕ) (t₀ : Tables) (told₀ : List ℕ) (t : Tables) (entry free told : List ℕ) (b : Tally) (at e i : ℕ) : Type 0 where
@@ -71,15 +70,6 @@ walk-first a part count t entry free told h =
 
 pub good-one : {l m : List Request} → good l ≡ good m → l ≡ m
 good-one e = cc
-
-sets-append : (l : List ℕ) (i : ℕ) (xs ys : List ℕ) → sets l i (xs ++ ys) ≡ sets (sets l i xs) (i + length xs) ys
-sets-append l i [] ys = ap (λ (k : ℕ). sets l k ys) (omega arith)
-sets-append l i (x ∷ xs) ys = sets-append (set l i x) (suc i) xs ys ∙ ap (λ (k : ℕ). sets (sets (set l i x) (suc i) xs) k ys) (omega arith)
-
-at-most-one : (o : Outcome) → onAdmitted o 1 ≤ 1
-at-most-one Hit = omega arith
-at-most-one Admitted = omega arith
-at-most-one (Passed w) = omega arith
 
 -- ---- one request of the run
 
@@ -117,7 +107,7 @@ module _ (b : Tally) (t : Tables) (entry free told : List ℕ) (e : ℕ) (q : Re
 
   more-room : e + 2 * suc (length l) + b .«files_kept» ≤ length told → r .events + 2 * length l + r .tally .«files_kept» ≤ length told′
   more-room room =
-      let k : length (x .reply .evicted) + files (x .state .shelf) ≡ files (stateOf b t .shelf) + onAdmitted (x .reply .outcome) 1 =
+      let k : copies (x .reply .dropped) + length (x .reply .evicted) + files (x .state .shelf) ≡ files (stateOf b t .shelf) + onAdmitted (x .reply .outcome) 1 =
       step-counts (policyIn (b .settings)) (storeOf (b .settings)) (stateOf b t) q (omega (arith, shelf-length (b .settings .catalogue .0) t (h .running .long .place), h .ranged .file)) in
       let n : r .tally .«files_kept» ≡ files (x .state .shelf) = ap (λ (y : Tally). y .«files_kept») (s .serves .tally) in
       let w : length told′ ≡ length told = ap (λ (es : List ℕ). length es) (s .serves .written) ∙ length-sets told e (entries q (x .reply)) in
@@ -244,6 +234,7 @@ stands a b t st y set is sums sound =
       «hit_bytes» = record { 0 = sums j .hitBytes };
       «cost_asked» = record { 0 = sums j .cost };
       «hit_cost» = record { 0 = sums j .hitCost };
+      dropped = sums j .dropped;
     }
 
 pub walk-end : (a : Tally) (part : List ℕ) (count : ℕ) (t₀ : Tables) (told₀ : List ℕ) (t : Tables) (entry free told : List ℕ) (b : Tally) (at e i : ℕ)

@@ -26,14 +26,14 @@ use Rattle.tables.specs.Tally.{policyIn, stampOf, totalsOf}
 use Rattle.tables.specs.declared.tally.Tally.{Tally}
 use Rattle.tables.proofs.Lengths.{tables-eq}
 use Rattle.tables.proofs.Shelves.{slot-kept}
-use Rattle.shelving.specs.Hitting.{Hittable, HitDone}
+use Rattle.hitting.specs.Hitting.{Hittable, HitDone}
 use Rattle.shelving.proofs.Links.{SameAt, at-file, at-occupied}
 use Rattle.shelving.proofs.Lives.{live-same, stack-same}
 use Rattle.counting.specs.Counting.{passTally}
 use Rattle.admitting.specs.Admitting.{Admissible, admits}
 use Rattle.admitting.specs.Deciding.{Met, Meetable, meets, beyondOf}
 use Rattle.admitting.specs.declared.untold.Untold.{Untold}
-use Rattle.admitting.proofs.Beyond.{drop-same}
+use Rattle.shelving.proofs.Beyond.{drop-same}
 use Rattle.admitting.proofs.Putting.{keptAt, Put, put}
 use Rattle.admitting.proofs.Tallies.{hit-totals, hit-kept, tallied-after}
 use Rattle.admitting.proofs.Meetings as meetings

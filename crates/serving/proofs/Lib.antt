@@ -1,4 +1,6 @@
 -- The laws of this room.
 pub mod Runnings
 pub mod Cases
+pub mod Writing
+pub mod Cleanings
 pub mod Servings

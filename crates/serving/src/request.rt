@@ -1,4 +1,4 @@
-// One request: decided by the file number alone, then told in the event list.
+// One request: a stale copy goes first, then it is decided by the file number alone and told in the event list.
 use crate::step::Step;
 use admitting::Untold;
 use admitting::admit;
@@ -6,10 +6,11 @@ use amounts::Bytes;
 use amounts::Cost;
 use amounts::Places;
 use counting::with_pass;
+use dropping::drop_stale;
+use hitting::hit;
 use method::Outcome;
 use method::Pass;
 use method::event;
-use shelving::hit;
 use shelving::wide16;
 use tables::Tally;
 ghost use Rattle.tables.specs.Tables.{tables};
@@ -73,7 +74,7 @@ fn meet(
     )
 }
 
-// Serves a request for file f, of size z and cost w, and writes its events from `at` on: its own entry is that of its outcome.
+// Serves a request for file f, of size z and cost w, and writes its events from `at` on: a stale copy, the evictions, and its own entry, which is that of its outcome.
 pub fn serve(
     a: Tally,
     f: usize,
@@ -95,8 +96,25 @@ pub fn serve(
     requires { ⌜ Servable a (asked f (z .0) (w .0)) (tables (now place) (now file) (now size) (now cost) (now freq) (now key) (now stamp) (now queue)) (now entry) (now free) (now events) at ⌝ }
     ensures { λ r. ⌜ Stepped a (asked f (z .0) (w .0)) (tables (now (place .entry)) (now (file .entry)) (now (size .entry)) (now (cost .entry)) (now (freq .entry)) (now (key .entry)) (now (stamp .entry)) (now (queue .entry))) (now (events .entry)) at r (tables (now (place .exit)) (now (file .exit)) (now (size .exit)) (now (cost .exit)) (now (freq .exit)) (now (key .exit)) (now (stamp .exit)) (now (queue .exit))) (now (entry .exit)) (now (free .exit)) (now (events .exit)) ⌝ }
 {
-    let met = meet(
+    let cleaned = drop_stale(
         a,
+        f,
+        z,
+        place,
+        file,
+        size,
+        cost,
+        freq,
+        key,
+        stamp,
+        queue,
+        entry,
+        free,
+        events,
+        at,
+    );
+    let met = meet(
+        cleaned.tally,
         f,
         z,
         w.in_force(z),
@@ -111,7 +129,7 @@ pub fn serve(
         entry,
         free,
         events,
-        at,
+        cleaned.due,
     );
     let outcome = met.outcome;
     let tally = met.tally;

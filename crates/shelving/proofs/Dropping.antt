@@ -8,6 +8,7 @@ use lib.ListN.{length, getD, set, length-set}
 use lib.Seq.{getD-set-same, getD-set-other}
 use Rattle.amounts.specs.Limits.{noPlace}
 use Rattle.amounts.specs.declared.settings.Settings.{Settings}
+use Rattle.amounts.proofs.Tests.{same, below}
 use Rattle.queue.specs.Queue.{is, times, Whole}
 use Rattle.queue.proofs.Totals.{total-last, total-prefix, is-same}
 use Rattle.queue.proofs.Callers.{whole-record, whole-behind}
@@ -15,6 +16,7 @@ use Rattle.method.specs.Shelf.{none}
 use Rattle.method.specs.Method.{Gone}
 use Rattle.tables.specs.Tables.{Tables, Long, recordAt, shelfOf}
 use Rattle.tables.specs.Sound.{At, Occupied}
+use Rattle.tables.proofs.Counting.{times-twice}
 use Rattle.tables.proofs.Shelves.{shelf-change, slot-none}
 use Rattle.shelving.specs.Live.{Live, Stack}
 use Rattle.shelving.specs.Evicting.{withQueue, goneAt, behind, without, clearAt, lastPlace, dropLast, dropAll, stackAll, Droppable, Dropped}
@@ -228,3 +230,17 @@ unfolding dropAll stackAll
 falling-end s n m t₀ t free₀ free i h end =
     let e : 0 ≡ i - m = omega arith in
     record { lent = ap (λ (k : ℕ). dropAll k i t) e ∙ h .lent; stack = ap (λ (k : ℕ). stackAll (s .places .0) k i t free) e ∙ h .stack }
+
+-- ---- what dropping asks
+
+module _ {s : Settings} {n m : ℕ} {t : Tables} {entry : List ℕ} (h : Live s n m t entry) where
+  twice : (i j : ℕ) → i < j → j < n → getD (t .queue) i 0 ≡ getD (t .queue) j 0 → ⊥
+  twice i j a b e = omega (arith, times-twice (t .queue) i j n a b e, h .queued .once (getD (t .queue) j 0) (h .queued .entries j b))
+
+  entries-apart : (i j : ℕ) → i < n → j < n → getD (t .queue) i 0 ≡ getD (t .queue) j 0 → i ≡ j
+  entries-apart i j a b e =
+      ⊎-elim (λ z. z) (λ ne. ⊎-elim (λ z. absurd (twice i j z b e)) (λ z. absurd (twice j i (omega arith) a (sym e))) (below i j)) (same i j)
+
+  pub live-droppable : (free : List ℕ) → s .places .0 ≤ length free → Droppable s n m t free
+  live-droppable free long =
+      record { places = h .places; long = h .long; free-long = long; few = h .few; part = h .part; entries = h .queued .entries; apart = entries-apart }

@@ -8,4 +8,5 @@ pub mod PuttingBack
 pub mod Popping
 pub mod Dropping
 pub mod Tellings
-pub mod Hits
+pub mod Beyond
+pub mod Runnings

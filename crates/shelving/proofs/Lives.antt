@@ -101,8 +101,8 @@ apart-wider {q} {q′} {m = m} n h g a =
       unheld = λ p z. a .unheld p (omega (arith, total-prefix (is p) q′ m n h));
     }
 
-pub removed-kept : (q q′ e e′ keys stamps : List ℕ) (m n : ℕ) → 0 < m → m ≤ n → Removed q q′ e e′ keys stamps m 0 (getD q 0 0) → Rearranged q q′ e e′ n
-removed-kept q q′ e e′ keys stamps m n pos h r =
+pub removed-kept : (q q′ e e′ keys stamps : List ℕ) (m n at : ℕ) → 0 < m → m ≤ n → Removed q q′ e e′ keys stamps m at (getD q at 0) → Rearranged q q′ e e′ n
+removed-kept q q′ e e′ keys stamps m n at pos h r =
     record {
       held = λ f. total-past f q q′ m n h (r .apart .past) (total-last f q′ m pos ∙ ap (λ (v : ℕ). total f q′ (m - 1) + f v) (r .freed) ∙ r .held f);
       apart = apart-wider n (omega arith) h (r .apart);

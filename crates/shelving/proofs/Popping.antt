@@ -111,7 +111,7 @@ module _ (s : Settings) (n : ℕ) (t : Tables) (entry : List ℕ) (z limit l₀ 
       let new : behind (withQueue q′ t) n (n - (m - 1)) ≡ behind (withQueue q t) n (n - m) ++ record { file = f; was = k } ∷ [] =
       ap (behind (withQueue q′ t) n) {x = n - (m - 1)} {y = suc (n - m)} (omega arith) ∙ behind-snoc (withQueue q′ t) n (n - m) ∙ (λ i. old i ++ last i ∷ []) in
       record {
-        live = live-queue s n m (m - 1) t q q′ e e′ (y .live) (omega arith) (removed-kept q q′ e e′ (t .key) (t .stamp) m n pos part r) (r .whole);
+        live = live-queue s n m (m - 1) t q q′ e e′ (y .live) (omega arith) (removed-kept q q′ e e′ (t .key) (t .stamp) m n 0 pos part r) (r .whole);
         shelf = x;
         covers = covers-less s t q q′ e e′ (t .key) (t .stamp) m (y .shelf) (y .covers) (record { whole = w; inside = pos }) r;
         apart = apart-none (y .shelf) f (y .apart);

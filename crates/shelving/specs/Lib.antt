@@ -4,5 +4,4 @@ pub mod Room
 pub mod Records
 pub mod Evicting
 pub mod Telling
-pub mod Hitting
 pub mod Taking

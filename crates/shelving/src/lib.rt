@@ -1,6 +1,5 @@
-// What a request does to the tables: files kept and dropped, room made for a newcomer, a key set anew, and the events told.
+// What an admission does to the tables: files kept and dropped, room made for a newcomer, and the evictions told.
 mod evict;
-mod hitting;
 mod keeping;
 mod records;
 mod room;
@@ -8,7 +7,6 @@ mod wide;
 
 pub use evict::drop_behind;
 pub use evict::tell;
-pub use hitting::hit;
 pub use keeping::keep;
 pub use records::Kept;
 pub use room::Room;

@@ -30,9 +30,9 @@ amount m h n x y =
 
 agreed : (k : ℕ) (y : Totals) → Decided (Agreed k y)
 agreed k y =
-    decide-as (λ p. record { outcomes = p .0; evicted = p .1 .0; bytes = p .1 .1 .0; cost = p .1 .1 .1 }) (λ g. (g .outcomes, (g .evicted, (g .bytes, g .cost))))
+    decide-as (λ p. record { outcomes = p .0; gone = p .1 .0; bytes = p .1 .1 .0; cost = p .1 .1 .1 }) (λ g. (g .outcomes, (g .gone, (g .bytes, g .cost))))
     (decide-both (same (y .hits + y .admitted + y .passed) (y .requests))
-    (decide-both (same (y .evicted + k) (y .admitted))
+    (decide-both (same (y .evicted + y .dropped + k) (y .admitted))
     (decide-both (amount sizeMost (y .hits) (y .requests) (y .hitBytes) (y .bytes)) (amount costMost (y .hits) (y .requests) (y .hitCost) (y .cost)))))
 
 -- ---- the links and the queue

@@ -44,6 +44,7 @@ tallyOf v =
       «hit_bytes» = record { 0 = getD v 14 0 };
       «cost_asked» = record { 0 = getD v 15 0 };
       «hit_cost» = record { 0 = getD v 16 0 };
+      dropped = getD v 17 0;
     }
 
 abbrev startedWith : List ℕ → Started

@@ -91,7 +91,7 @@ unfolding shelfOf slotOf sum
 worked = record {
   agreed = record {
     outcomes = refl;
-    evicted = refl;
+    gone = refl;
     bytes = record { hit-least = omega arith; hit-most = omega arith; hit-asked = omega arith; asked-least = omega arith; asked-most = omega arith };
     cost = record { hit-least = omega arith; hit-most = omega arith; hit-asked = omega arith; asked-least = omega arith; asked-most = omega arith };
   };

@@ -59,7 +59,7 @@ pub record Queued (s : Settings) (n : ℕ) (t : Tables) : Type 0 where
   pub rest : Rest s n t
 
 pub record Sound (a : Tally) (t : Tables) : Type 0 where
-  -- hits + admitted + passed = requests, evicted + files kept = admitted, and the totals against their bounds
+  -- hits + admitted + passed = requests, evicted + dropped + files kept = admitted (document 02, ticket 2), and the totals against their bounds
   pub agreed : Agreed (a .«files_kept») (totalsOf a)
   pub few : a .requests ≤ requestsMost
   pub linked : Linked (a .settings) t

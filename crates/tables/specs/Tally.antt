@@ -20,6 +20,7 @@ totalsOf a =
       admitted = a .admitted;
       passed = a .passed;
       evicted = a .evicted;
+      dropped = a .dropped;
       bytes = a .«bytes_asked» .0;
       hitBytes = a .«hit_bytes» .0;
       cost = a .«cost_asked» .0;
@@ -50,4 +51,5 @@ freshTally s =
       «hit_bytes» = record { 0 = 0 };
       «cost_asked» = record { 0 = 0 };
       «hit_cost» = record { 0 = 0 };
+      dropped = 0;
     }

@@ -33,6 +33,7 @@ workedTally =
       «hit_bytes» = record { 0 = 64 };
       «cost_asked» = record { 0 = 8 };
       «hit_cost» = record { 0 = 4 };
+      dropped = 0;
     }
 
 -- it has place 1; place 0 is unused

@@ -20,6 +20,7 @@ pub struct Tally {
     pub hit_bytes: Bytes,
     pub cost_asked: Cost,
     pub hit_cost: Cost,
+    pub dropped: u64,
 }
 
 impl Tally {
@@ -41,6 +42,7 @@ impl Tally {
             hit_bytes: Bytes(0),
             cost_asked: Cost(0),
             hit_cost: Cost(0),
+            dropped: 0,
         }
     }
 }

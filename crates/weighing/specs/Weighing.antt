@@ -32,7 +32,7 @@ pub record Counted (a : Tally) : Type 0 where
   pub outcomes : a .hits + a .admitted + a .passed ≡ a .requests
   pub bytes : Amount sizeMost (a .hits) (a .requests) (a .«hit_bytes» .0) (a .«bytes_asked» .0)
 
--- document 01: all that is asked of the totals, evicted + files kept = admitted and the costs with the rest
+-- document 01: all that is asked of the totals, evicted + dropped + files kept = admitted (document 02, ticket 2) and the costs with the rest
 pub record Numbers (a : Tally) : Type 0 where
   pub few : a .requests ≤ requestsMost
   pub agreed : Agreed (a .«files_kept») (totalsOf a)

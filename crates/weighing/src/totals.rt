@@ -68,7 +68,11 @@ pub fn totals_agree(a: Tally) -> bool
     if a.admitted < a.evicted {
         return false;
     }
-    if a.files_kept != a.admitted - a.evicted {
+    let others = a.admitted - a.evicted;
+    if others < a.dropped {
+        return false;
+    }
+    if a.files_kept != others - a.dropped {
         return false;
     }
     cost_agrees(a)

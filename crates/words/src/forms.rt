@@ -95,6 +95,7 @@ pub fn tally_from(tally: &[u64]) -> Tally
         hit_bytes: Bytes(tally[14]),
         cost_asked: Cost(tally[15]),
         hit_cost: Cost(tally[16]),
+        dropped: tally[17],
     }
 }
 
@@ -120,4 +121,5 @@ pub fn put_words(a: Tally, out: &mut [u64])
     out[14] = a.hit_bytes.0;
     out[15] = a.cost_asked.0;
     out[16] = a.hit_cost.0;
+    out[17] = a.dropped;
 }

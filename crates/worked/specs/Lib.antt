@@ -1,2 +1,3 @@
 -- The bench pieces that are proved.
 pub mod Pieces
+pub mod Recuts

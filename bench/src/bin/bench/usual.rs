@@ -30,6 +30,7 @@ const ADMIT: u64 = 2;
 const BIG: u64 = 3;
 const LOW: u64 = 4;
 const EVICT: u64 = 5;
+const STALE: u64 = 6;
 
 impl Usual {
     pub fn new(settings: Settings, requests: usize) -> Self {
@@ -46,7 +47,7 @@ impl Usual {
     }
 
     pub fn serve(&mut self, [file, size, cost]: [u64; 3]) {
-        let kind = if self.files.contains_key(&file) {
+        let kind = if self.is_kept(file, size) {
             self.hit(file);
             HIT
         } else if size > self.settings.capacity {
@@ -56,6 +57,26 @@ impl Usual {
         };
         self.push(kind, file);
         self.served += 1;
+    }
+
+    /// Whether the file is kept in this size; a copy of another size is dropped.
+    fn is_kept(&mut self, file: u64, size: u64) -> bool {
+        let Some(&Record {
+            size: kept,
+            key,
+            stamp,
+            ..
+        }) = self.files.get(&file)
+        else {
+            return false;
+        };
+        if kept != size {
+            self.files.remove(&file);
+            self.order.remove(&(key, stamp, file));
+            self.bytes_kept -= kept;
+            self.push(STALE, file);
+        }
+        kept == size
     }
 
     fn hit(&mut self, file: u64) {

@@ -1,4 +1,4 @@
-//! Zipf-like traces: a few files are asked for often, most of them seldom.
+//! Zipf-like traces: a few files are asked for often, most of them seldom; in one of them files are cut anew.
 
 use bench::model::limits::{MOST_CAPACITY, MOST_CATALOGUE};
 use bench::model::trace::write_number;
@@ -22,31 +22,43 @@ impl Workload {
     }
 }
 
-pub fn all(requests: u64) -> [Workload; 2] {
+/// In the last one, one request in this many finds its file cut anew.
+const RECUT_CHANCES: u64 = 20;
+
+pub fn all(requests: u64) -> [Workload; 3] {
+    let trace = |name, skew, bytes_a_place, recuts| Workload {
+        name,
+        requests,
+        part: part(requests, skew, recuts),
+        bytes_a_place,
+    };
     [
-        workload("hit-heavy", requests, 1.4, None),
-        workload("miss-heavy", requests, 0.6, Some(40_000)),
+        trace("hit-heavy", 1.4, None, None),
+        trace("miss-heavy", 0.6, Some(40_000), None),
+        trace("recut", 1.4, None, Some(RECUT_CHANCES)),
     ]
 }
 
-fn workload(name: &'static str, requests: u64, skew: f64, bytes_a_place: Option<u64>) -> Workload {
+fn part(requests: u64, skew: f64, recuts: Option<u64>) -> Vec<u8> {
     let mut random = Random::new(skew.to_bits());
-    let files = files(&mut random);
+    let mut files = files(&mut random);
     let heights = heights(skew);
     let mut part = Vec::new();
     for _ in 0..requests {
         let height = random.fraction() * heights[heights.len() - 1];
         let rank = heights.partition_point(|&below| below <= height);
+        if recuts.is_some_and(|chances| random.one_in(chances)) {
+            files[rank][1] = size(&mut random);
+        }
         for number in files[rank] {
             write_number(number, &mut part);
         }
     }
-    Workload {
-        name,
-        requests,
-        part,
-        bytes_a_place,
-    }
+    part
+}
+
+fn size(random: &mut Random) -> u64 {
+    (LEAST_SIZE * (MOST_SIZE / LEAST_SIZE).powf(random.fraction())) as u64
 }
 
 /// File number, size and cost by rank of popularity, the numbers in any order.
@@ -57,10 +69,7 @@ fn files(random: &mut Random) -> Vec<[u64; 3]> {
     }
     numbers
         .into_iter()
-        .map(|number| {
-            let size = LEAST_SIZE * (MOST_SIZE / LEAST_SIZE).powf(random.fraction());
-            [number, size as u64, random.below(2_000)]
-        })
+        .map(|number| [number, size(random), random.below(2_000)])
         .collect()
 }
 

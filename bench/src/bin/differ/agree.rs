@@ -1,6 +1,7 @@
 //! One call of the library beside the model's: the answer and every lent entry must agree.
 
 use std::fmt::Debug;
+use std::sync::atomic::{AtomicU64, Ordering};
 
 use bench::boundary;
 use bench::model::red_card::{Answer, Refusal};
@@ -34,6 +35,44 @@ impl Lent {
 
 pub type Agreement = Result<Answer, String>;
 
+/// Recuts that the library told of since they were last taken: admitted, big and low.
+static RECUTS: [AtomicU64; 3] = [const { AtomicU64::new(0) }; 3];
+
+/// Counted beside the answers, since every call that carries on may tell of some.
+pub fn take_recuts() -> [u64; 3] {
+    RECUTS
+        .each_ref()
+        .map(|count| count.swap(0, Ordering::Relaxed))
+}
+
+/// What a recut comes to is the next kind of event after `stale` that is no eviction.
+fn count_recuts(kinds: impl Iterator<Item = u32>) {
+    let mut is_recut = false;
+    for kind in kinds {
+        match kind {
+            6 => is_recut = true,
+            5 => {}
+            _ => {
+                let outcome = kind.checked_sub(2).filter(|_| is_recut);
+                let count = outcome.and_then(|outcome| RECUTS.get(outcome as usize));
+                count.map(|count| count.fetch_add(1, Ordering::Relaxed));
+                is_recut = false;
+            }
+        }
+    }
+}
+
+/// The kinds of a sheet's event lines; other lines have none.
+fn kinds_of(sheet: &[u8]) -> impl Iterator<Item = u32> + '_ {
+    let kinds = ["hit ", "admit ", "big ", "low ", "evict ", "stale "];
+    sheet.split(|&byte| byte == b'\n').filter_map(move |line| {
+        let kind = kinds
+            .iter()
+            .position(|name| line.starts_with(name.as_bytes()));
+        kind.map(|kind| kind as u32 + 1)
+    })
+}
+
 pub fn fresh(settings: &Settings, lent: &mut Lent) -> Agreement {
     let mut expected = lent.clone();
     let result = tables::fresh(settings, &mut expected.tally, &mut expected.tables);
@@ -55,6 +94,7 @@ pub fn carry_on(unit: u64, lent: &mut Lent, part: &[u8], events: &mut [u32]) -> 
         Ok(carried) => {
             expected[..carried.events.len()].copy_from_slice(&carried.events);
             carried_alike(lent, &before, &carried)?;
+            count_recuts(carried.events.iter().map(|event| event / 32_768));
         }
     }
     same_list("events", events, &expected)?;
@@ -152,6 +192,9 @@ pub fn sheet(trace: &[u8], out: &mut [u8]) -> Agreement {
     let given = boundary::sheet(trace, out);
     same_answer(given, result)?;
     same_list("sheet", out, &expected)?;
+    if given.number == 0 {
+        count_recuts(kinds_of(&out[..given.value as usize]));
+    }
     Ok(given)
 }
 
@@ -184,6 +227,13 @@ fn framed(out: &mut [u8], call: impl FnOnce(&mut [u8]) -> Answer) -> Agreement {
     same_list("bytes before out", before, &FRAME)?;
     same_list("bytes behind out", behind, &FRAME)?;
     Ok(given)
+}
+
+/// What the program printed is the model's sheet.
+pub fn printed(given: &[u8], expected: &str) -> Agreement {
+    same_list("printed sheet", given, expected.as_bytes())?;
+    count_recuts(kinds_of(given));
+    Ok(said(given))
 }
 
 /// What a sheet says by its text: refused by a number, or done.
@@ -242,7 +292,7 @@ pub fn same_list<T: PartialEq + Debug>(
     Ok(())
 }
 
-fn same<T: PartialEq + Debug>(what: &str, given: &T, expected: &T) -> Result<(), String> {
+pub fn same<T: PartialEq + Debug>(what: &str, given: &T, expected: &T) -> Result<(), String> {
     if given == expected {
         return Ok(());
     }

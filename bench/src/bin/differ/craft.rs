@@ -81,6 +81,7 @@ fn tally(random: &mut Random, settings: Settings, records: &[Kept], bytes_kept: 
     let files_kept = records.len() as u64;
     let requests = edge(random, frequencies, MOST_REQUESTS);
     let admitted = edge(random, files_kept, requests);
+    let dropped = edge(random, 0, admitted - files_kept);
     let hits = edge(random, 0, requests - admitted);
     let most_inflation = u128::from(requests) * u128::from(MOST_WORTH) - products(records);
     let hit_bytes = edge(random, hits, hits * MOST_SIZE);
@@ -94,11 +95,12 @@ fn tally(random: &mut Random, settings: Settings, records: &[Kept], bytes_kept: 
         hits,
         admitted,
         passed: requests - admitted - hits,
-        evicted: admitted - files_kept,
+        evicted: admitted - files_kept - dropped,
         bytes_asked: edge(random, requests.max(hit_bytes), requests * MOST_SIZE),
         hit_bytes,
         cost_asked: edge(random, requests.max(hit_cost), requests * MOST_COST),
         hit_cost,
+        dropped,
     }
 }
 

@@ -51,7 +51,7 @@ pub fn parts(random: &mut Random) -> Verdict {
         craft::sound_lent(random)
     };
     let settings = lent.settings();
-    let mut part = make::part_of(&make::requests(random, &settings, 12));
+    let mut part = make::part_of(&make::further(random, &lent, 12));
     damage(random, &mut part);
     let mut lists = make::old_lists(random, 16);
     let read = agree::read_part(settings.catalogue, &part, &mut lists)?;

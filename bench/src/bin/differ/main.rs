@@ -11,6 +11,7 @@ mod make;
 mod order;
 mod pieces;
 mod printed;
+mod recuts;
 mod runs;
 mod sheets;
 mod soundness;
@@ -31,12 +32,24 @@ type Verdict = Result<Vec<Answer>, String>;
 /// The numbers are those of the lists of documents 01 and 02 and of the boundary's orders of refusals that the kind is
 /// made for: 1 and 2 for a fresh start, 1, 2, 8, 7, 3, 4, 5 and 6 for carrying on, 1, 3, 4 and 6 for the reader, 1, 2,
 /// 4 and 6 for the writer, 9, 1, 2, 3 and 4 on a sheet, 1, 10 and 6 for a Squid log. A kind that misses one of them
-/// tests less than it says, and the run fails.
+/// tests less than it says, and the run fails; so does one that sees fewer recuts than it is made for.
 struct Kind {
     name: &'static str,
     case: fn(&mut Random) -> Verdict,
     reaches: &'static [u64],
+    /// Of each hundred cases at least so many `stale` events whose request is then admitted, big and low.
+    recuts: [u64; 3],
     fewer: u64,
+}
+
+impl Kind {
+    const fn recuts(self, recuts: [u64; 3]) -> Kind {
+        Kind { recuts, ..self }
+    }
+
+    const fn fewer(self, fewer: u64) -> Kind {
+        Kind { fewer, ..self }
+    }
 }
 
 const fn kind(
@@ -48,26 +61,31 @@ const fn kind(
         name,
         case,
         reaches,
+        recuts: [0; 3],
         fewer: 1,
     }
 }
 
-const KINDS: [Kind; 31] = [
+const KINDS: [Kind; 35] = [
     kind("settings in and out of range", fresh::settings, &[0, 1]),
     kind("fresh start, tables too short", fresh::too_short, &[0, 2]),
-    kind("fresh start over old contents, twins", fresh::twins, &[0]),
+    kind("fresh start over old contents, twins", fresh::twins, &[0]).recuts([100, 20, 0]),
     kind("fresh start, order of refusals", order::fresh, &[0, 1, 2]),
-    kind("runs split into parts", runs::in_parts, &[0]),
-    kind("event list just long enough", runs::event_room, &[0, 6]),
-    kind("requests near the run limit", runs::near_the_limit, &[0, 5]),
+    kind("runs split into parts", runs::in_parts, &[0]).recuts([300, 50, 3]),
+    kind("event list just long enough", runs::event_room, &[0, 6]).recuts([100, 15, 1]),
+    kind("requests near the run limit", runs::near_the_limit, &[0, 5]).recuts([80, 15, 1]),
     kind("carrying on, tables too short", runs::too_short, &[0, 2]),
     kind(
         "carrying on, order of refusals",
         order::carry_on,
         &[0, 1, 2, 3, 4, 5, 6, 7, 8],
     ),
-    kind("tables that no run reached", soundness::crafted, &[0, 5]),
-    kind("tables arranged otherwise", soundness::rearranged, &[0]),
+    kind("tables that no run reached", soundness::crafted, &[0, 5]).recuts([15, 1, 0]),
+    kind("tables arranged otherwise", soundness::rearranged, &[0]).recuts([150, 30, 2]),
+    kind("recuts of a kept file", recuts::one, &[0]).recuts([100, 20, 3]),
+    kind("recuts back and forth, in parts", recuts::in_parts, &[0]).recuts([700, 150, 20]),
+    kind("a kept file at another cost", recuts::same_size, &[0]),
+    kind("evicted and dropped set anew", soundness::drops, &[0, 7]).recuts([40, 8, 0]),
     kind("one entry changed", soundness::one_change, &[0, 1, 2, 7, 8]),
     kind("damaged parts", damage::parts, &[0, 3, 4]),
     kind("damaged files", damage::files, &[0, 1, 3, 4]),
@@ -76,24 +94,18 @@ const KINDS: [Kind; 31] = [
     kind("writer's lists", traces::writer, &[0, 1, 2, 4, 6]),
     kind("writer, order of refusals", order::writer, &[0, 1, 2, 4, 6]),
     kind("round trips", traces::round_trip, &[0]),
-    kind("sheets", sheets::valid, &[0, 2, 6, 9]),
+    kind("sheets", sheets::valid, &[0, 2, 6, 9]).recuts([300, 50, 3]),
     kind(
         "sheets, order of refusals",
         order::sheet,
         &[0, 1, 2, 3, 4, 9],
     ),
-    Kind {
-        name: "large stores",
-        case: runs::large,
-        reaches: &[0],
-        fewer: 20,
-    },
-    Kind {
-        name: "bench pieces and samples",
-        case: pieces::all,
-        reaches: &[0, 5],
-        fewer: u64::MAX,
-    },
+    kind("large stores", runs::large, &[0])
+        .recuts([5_000, 50, 50])
+        .fewer(20),
+    kind("bench pieces and samples", pieces::all, &[0, 5])
+        .recuts([1_000_000, 500_000, 100])
+        .fewer(u64::MAX),
     kind("good Squid logs", squid::good, &[0]),
     kind("Squid logs, room for the trace", squid::room, &[0, 6]),
     kind(
@@ -113,23 +125,24 @@ const KINDS: [Kind; 31] = [
         &[0, 1, 6, 10],
     ),
     kind("real Squid logs, damaged", squid::damaged, &[0, 10]),
-    Kind {
-        name: "long Squid logs",
-        case: squid::long,
-        reaches: &[0, 10],
-        fewer: u64::MAX,
-    },
+    kind("long Squid logs", squid::long, &[0, 10]).fewer(u64::MAX),
 ];
 
-/// Calls by their number on the red card, 0 to 10.
-type Calls = [u64; 11];
+/// What the cases of a kind came to: calls by their number on the red card, 0 to 10, and recuts by their outcome.
+#[derive(Default)]
+struct Seen {
+    cases: u64,
+    calls: [u64; 11],
+    recuts: [u64; 3],
+}
 
 /// Only where a program is named.
 const PRINTED: Kind = kind(
     "sheets that the program prints",
     printed::all,
     &[0, 1, 2, 3, 4, 9],
-);
+)
+.recuts([50, 5, 0]);
 
 const DEFAULT_CASES: u64 = 400;
 const DEFAULT_SEED: u64 = 7;
@@ -154,7 +167,7 @@ fn main() -> ExitCode {
                 println!("DIFFERENCE at {difference}");
                 return ExitCode::FAILURE;
             }
-            Ok(calls) => missed.extend(missed_by(kind, &calls)),
+            Ok(seen) => missed.extend(missed_by(kind, &seen)),
         }
     }
     for line in &missed {
@@ -167,21 +180,33 @@ fn main() -> ExitCode {
     }
 }
 
-/// The numbers that a kind must reach and has not.
-fn missed_by(kind: &Kind, calls: &Calls) -> Vec<String> {
-    let unreached = kind.reaches.iter().filter(|&&at| calls[at as usize] == 0);
-    unreached
-        .map(|number| format!("{}: no call answered {number}", kind.name))
-        .collect()
+const RECUT_OUTCOMES: [&str; 3] = ["admitted", "big", "low"];
+
+/// The numbers that a kind must reach and has not, and the recuts that it has too few of.
+fn missed_by(kind: &Kind, seen: &Seen) -> Vec<String> {
+    let unreached = kind
+        .reaches
+        .iter()
+        .filter(|&&at| seen.calls[at as usize] == 0);
+    let numbers = unreached.map(|number| format!("{}: no call answered {number}", kind.name));
+    let few = (0..3).filter(|&at| 100 * seen.recuts[at] < kind.recuts[at] * seen.cases);
+    let recuts = few.map(|at| {
+        let (outcome, count, least) = (RECUT_OUTCOMES[at], seen.recuts[at], kind.recuts[at]);
+        format!(
+            "{}: {count} recuts {outcome}, {least} a hundred cases are due",
+            kind.name
+        )
+    });
+    numbers.chain(recuts).collect()
 }
 
-/// Runs the cases of a kind and gives its calls by their number.
-fn run_kind(kind: &Kind, number: u64, cases: u64, seed: u64) -> Result<Calls, String> {
+/// Runs the cases of a kind and gives what they came to.
+fn run_kind(kind: &Kind, number: u64, cases: u64, seed: u64) -> Result<Seen, String> {
     let cases = cases.div_ceil(kind.fewer);
     // The name goes out first, so that a crash inside the library is seen where it happened.
     print!("{}: ", kind.name);
     let _ = std::io::stdout().flush();
-    let mut calls = Calls::default();
+    let mut calls = [0; 11];
     for case in 0..cases {
         let mut random = Random::of_case(seed, number, case);
         let answers = (kind.case)(&mut random)
@@ -190,18 +215,31 @@ fn run_kind(kind: &Kind, number: u64, cases: u64, seed: u64) -> Result<Calls, St
             calls[answer.number as usize] += 1;
         }
     }
-    println!("{cases} cases, {}", listed(&calls));
-    Ok(calls)
+    let seen = Seen {
+        cases,
+        calls,
+        recuts: agree::take_recuts(),
+    };
+    println!("{cases} cases, {}", listed(&seen));
+    Ok(seen)
 }
 
-/// The calls by their number on the red card, those that occurred.
-fn listed(calls: &Calls) -> String {
-    let numbers = calls.iter().enumerate().filter(|(_, &count)| count > 0);
-    let parts: Vec<String> = numbers
-        .map(|(number, count)| match number {
-            0 => format!("done {count}"),
-            _ => format!("refused {number}: {count}"),
-        })
-        .collect();
+/// The calls by their number on the red card and the recuts by their outcome, those that occurred.
+fn listed(seen: &Seen) -> String {
+    let numbers = seen
+        .calls
+        .iter()
+        .enumerate()
+        .filter(|(_, &count)| count > 0);
+    let calls = numbers.map(|(number, count)| match number {
+        0 => format!("done {count}"),
+        _ => format!("refused {number}: {count}"),
+    });
+    let outcomes = RECUT_OUTCOMES
+        .iter()
+        .zip(seen.recuts)
+        .filter(|(_, count)| *count > 0);
+    let recuts = outcomes.map(|(outcome, count)| format!("recuts {outcome} {count}"));
+    let parts: Vec<String> = calls.chain(recuts).collect();
     parts.join(", ")
 }

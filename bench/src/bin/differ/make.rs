@@ -1,5 +1,7 @@
 //! Random settings, requests and lent tables, small enough that capacity and places bind.
 
+use std::collections::BTreeMap;
+
 use bench::model::limits::{
     MOST_CAPACITY, MOST_CATALOGUE, MOST_COST, MOST_PLACES, MOST_REQUESTS, MOST_SIZE, MOST_UNIT,
 };
@@ -48,18 +50,76 @@ pub fn settings_near_their_ends(random: &mut Random) -> Settings {
     Settings::from_words(words)
 }
 
-pub fn request(random: &mut Random, settings: &Settings) -> Request {
+/// Requests that know the last size of each file, so that hits and recuts come in turn.
+pub struct Asking {
+    settings: Settings,
+    sizes: BTreeMap<u64, u64>,
+}
+
+impl Asking {
+    pub fn afresh(settings: &Settings) -> Self {
+        Asking {
+            settings: *settings,
+            sizes: BTreeMap::new(),
+        }
+    }
+
+    /// Over tables that keep files already.
+    pub fn over(lent: &Lent) -> Self {
+        let settings = lent.settings();
+        let kept = lent.tables.shelf(settings.catalogue);
+        Asking {
+            settings,
+            sizes: kept.iter().map(|kept| (kept.file, kept.size)).collect(),
+        }
+    }
+
+    pub fn request(&mut self, random: &mut Random) -> Request {
+        let file = self.file(random);
+        let size = match self.sizes.get(&file).copied() {
+            Some(size) if !random.one_in(RECUT_CHANCES) => size,
+            Some(size) => recut(random, &self.settings, size),
+            None => self::size(random, &self.settings),
+        };
+        self.sizes.insert(file, size);
+        let any_cost = random.below(MOST_COST + 1);
+        Request {
+            file,
+            size,
+            cost: random.pick(&[0, 1, 1, 2, 5, any_cost, MOST_COST]),
+        }
+    }
+
+    /// Any file, or as often as not the next one above it that was seen before.
+    fn file(&self, random: &mut Random) -> u64 {
+        let any = file(random, self.settings.catalogue);
+        let seen = self.sizes.range(any..).next().map(|(&file, _)| file);
+        seen.filter(|_| random.one_in(2)).unwrap_or(any)
+    }
+
+    pub fn requests(&mut self, random: &mut Random, most: u64) -> Vec<Request> {
+        let count = random.below(most + 1);
+        (0..count).map(|_| self.request(random)).collect()
+    }
+}
+
+/// One in so many requests for a file seen before asks for another size.
+const RECUT_CHANCES: u64 = 4;
+
+pub fn size(random: &mut Random, settings: &Settings) -> u64 {
     let near = random.between(1, 200);
     let capacity = settings.capacity.min(MOST_SIZE);
     let above = (settings.capacity + 1).min(MOST_SIZE);
     let any = random.between(1, MOST_SIZE);
     let sizes = [1, 3, 7, 16, 32, 64, near, near, near, capacity, above, any];
-    let any_cost = random.below(MOST_COST + 1);
-    Request {
-        file: file(random, settings.catalogue),
-        size: random.pick(&sizes),
-        cost: random.pick(&[0, 1, 1, 2, 5, any_cost, MOST_COST]),
-    }
+    random.pick(&sizes)
+}
+
+/// A size of a file that had this one: often next to it, and now and then the same after all.
+pub fn recut(random: &mut Random, settings: &Settings, size: u64) -> u64 {
+    let any = self::size(random, settings);
+    let longer = (size + random.pick(&[1, 6, 256, 65_536])).min(MOST_SIZE);
+    random.pick(&[any, any, longer, (size - 1).max(1)])
 }
 
 /// A file number, more often a low one, so that some are asked for again and again.
@@ -69,8 +129,12 @@ fn file(random: &mut Random, catalogue: u64) -> u64 {
 }
 
 pub fn requests(random: &mut Random, settings: &Settings, most: u64) -> Vec<Request> {
-    let count = random.below(most + 1);
-    (0..count).map(|_| request(random, settings)).collect()
+    Asking::afresh(settings).requests(random, most)
+}
+
+/// Requests of a further part, some for files that the tables keep.
+pub fn further(random: &mut Random, lent: &Lent, most: u64) -> Vec<Request> {
+    Asking::over(lent).requests(random, most)
 }
 
 pub fn part_of(requests: &[Request]) -> Vec<u8> {

@@ -10,6 +10,7 @@ use bench::random::Random;
 use crate::agree::{self, Lent};
 use crate::fields::{all_requests, bytes_of, request_fault, setting_fault, setting_fields, Field};
 use crate::logs::{bad_line, good_lines, log_of, requests_of};
+use crate::make::Asking;
 use crate::{make, Verdict};
 
 /// A fault of its own chance: the refusal, where the coin falls so.
@@ -98,8 +99,9 @@ pub fn carry_on(random: &mut Random) -> Verdict {
     let faults = some_faults(random);
     let mut lent = make::running_lent(random)?;
     let settings = lent.settings();
-    let mut requests = make::requests(random, &settings, 3);
-    requests.push(make::request(random, &settings));
+    let mut asking = Asking::over(&lent);
+    let mut requests = asking.requests(random, 3);
+    requests.push(asking.request(random));
     let part = if faults.in_part {
         all_requests(random, &settings, &requests)
     } else {
@@ -132,7 +134,8 @@ pub fn carry_on(random: &mut Random) -> Verdict {
 fn put_faults(random: &mut Random, faults: &Faults, lent: &mut Lent) -> u64 {
     let settings = lent.settings();
     if faults.unsound {
-        lent.tally[6] += 1;
+        // Bytes kept, or dropped.
+        lent.tally[random.pick(&[6, 17])] += 1;
     }
     if faults.short {
         cut_one(random, &mut lent.tables);

@@ -8,6 +8,7 @@ use bench::model::trace::Request;
 use bench::random::Random;
 
 use crate::agree::{self, Lent};
+use crate::make::Asking;
 use crate::runs::carried;
 use crate::{make, Verdict};
 
@@ -67,8 +68,8 @@ fn keys(lent: &Lent) -> Vec<(u64, u64)> {
     shelf.iter().map(|kept| (kept.file, kept.key)).collect()
 }
 
-pub fn all(random: &mut Random) -> Verdict {
-    let mut answers = Vec::new();
+/// Document 01's example under both policies.
+fn example(random: &mut Random) -> Verdict {
     let events = [
         (2, 1),
         (2, 2),
@@ -79,10 +80,8 @@ pub fn all(random: &mut Random) -> Verdict {
         (2, 2),
         (3, 4),
     ];
-    let (lent, answer) = piece(random, SETTINGS, &EXAMPLE, &events)?;
+    let (lent, first) = piece(random, SETTINGS, &EXAMPLE, &events)?;
     agree::same_list("keys", &keys(&lent), &[(2, 1_572_864), (3, 1_572_864)])?;
-    answers.push(answer);
-
     let second = Settings {
         policy: 2,
         ..SETTINGS
@@ -97,9 +96,13 @@ pub fn all(random: &mut Random) -> Verdict {
         (2, 2),
         (3, 4),
     ];
-    let (lent, answer) = piece(random, second, &EXAMPLE, &events)?;
+    let (lent, second) = piece(random, second, &EXAMPLE, &events)?;
     agree::same_list("keys", &keys(&lent), &[(1, 2_097_152), (2, 1_048_576)])?;
-    answers.push(answer);
+    Ok(vec![first, second])
+}
+
+pub fn all(random: &mut Random) -> Verdict {
+    let mut answers = example(random)?;
 
     let fields = [[1, 100, 1], [2, 101, 1]];
     answers.push(piece(random, SETTINGS, &fields, &[(2, 1), (3, 2)])?.1);
@@ -112,6 +115,7 @@ pub fn all(random: &mut Random) -> Verdict {
     let events = [(2, 1), (5, 1), (2, 2), (5, 2), (2, 3)];
     answers.push(piece(random, one_place, &fields, &events)?.1);
 
+    answers.extend(recuts(random)?);
     for sample in SAMPLES {
         let mut out = vec![0; sheet(sample).len()];
         answers.push(agree::sheet(sample, &mut out)?);
@@ -121,12 +125,37 @@ pub fn all(random: &mut Random) -> Verdict {
     Ok(answers)
 }
 
+/// The drop of an old cut before the evictions, and old cuts that a big or a low one does not bring back.
+fn recuts(random: &mut Random) -> Verdict {
+    let fields = [[1, 60, 4], [2, 40, 1], [1, 61, 4], [1, 61, 4], [1, 101, 4]];
+    let events = [
+        (2, 1),
+        (2, 2),
+        (6, 1),
+        (5, 2),
+        (2, 1),
+        (1, 1),
+        (6, 1),
+        (3, 1),
+    ];
+    let (lent, first) = piece(random, SETTINGS, &fields, &events)?;
+    agree::same_list("keys", &keys(&lent), &[])?;
+    let second = Settings {
+        policy: 2,
+        ..SETTINGS
+    };
+    let fields = [[1, 50, 9], [2, 40, 9], [2, 40, 9], [1, 100, 1]];
+    let events = [(2, 1), (2, 2), (1, 2), (6, 1), (4, 1)];
+    let (lent, second) = piece(random, second, &fields, &events)?;
+    agree::same_list("keys", &keys(&lent), &[(2, 7_549_746)])?;
+    Ok(vec![first, second])
+}
+
 /// As many requests as a run may have pass, and one more is refused.
 fn run_limit(random: &mut Random) -> Verdict {
     let mut lent = make::fresh_lent(random, &SETTINGS)?;
-    let requests: Vec<Request> = (0..MOST_REQUESTS)
-        .map(|_| make::request(random, &SETTINGS))
-        .collect();
+    let mut asking = Asking::afresh(&SETTINGS);
+    let requests: Vec<Request> = (0..MOST_REQUESTS).map(|_| asking.request(random)).collect();
     let all = carried(random, &mut lent, &requests)?;
     let one_more = carried(random, &mut lent, &requests[..1])?;
     agree::due(one_more, Answer::refused(Refusal::RunLimit))?;

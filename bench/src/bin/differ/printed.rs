@@ -21,8 +21,7 @@ pub fn all(random: &mut Random) -> Verdict {
     let (first, second) = file.split_at(random.index(file.len() + 1));
     let printed =
         run(program, [first, second]).map_err(|error| format!("{}: {error}", program.join(" ")))?;
-    agree::same_list("printed sheet", &printed, sheet(&file).as_bytes())?;
-    Ok(vec![agree::said(&printed)])
+    Ok(vec![agree::printed(&printed, &sheet(&file))?])
 }
 
 /// What the program prints, given its input in pieces.

@@ -6,6 +6,7 @@ use bench::model::trace::Request;
 use bench::random::Random;
 
 use crate::agree::{self, Agreement, Lent};
+use crate::make::Asking;
 use crate::{craft, fresh, make, Verdict};
 
 /// Carries on with enough room for the events.
@@ -15,14 +16,22 @@ pub fn carried(random: &mut Random, lent: &mut Lent, requests: &[Request]) -> Ag
     agree::carry_on(unit, lent, &make::part_of(requests), &mut events)
 }
 
-/// One run in one call and the same run in parts cut anywhere.
 pub fn in_parts(random: &mut Random) -> Verdict {
     let settings = make::settings(random);
     let requests = make::requests(random, &settings, 120);
-    let mut lent = make::fresh_lent(random, &settings)?;
+    whole_and_in_parts(random, &settings, &requests)
+}
+
+/// One run in one call and the same run in parts cut anywhere.
+pub fn whole_and_in_parts(
+    random: &mut Random,
+    settings: &Settings,
+    requests: &[Request],
+) -> Verdict {
+    let mut lent = make::fresh_lent(random, settings)?;
     let mut whole = lent.clone();
-    let mut answers = vec![carried(random, &mut whole, &requests)?];
-    let mut rest = &requests[..];
+    let mut answers = vec![carried(random, &mut whole, requests)?];
+    let mut rest = requests;
     while !rest.is_empty() {
         let (part, after) = rest.split_at(random.index(rest.len() + 1));
         answers.push(carried(random, &mut lent, part)?);
@@ -38,7 +47,7 @@ pub fn in_parts(random: &mut Random) -> Verdict {
 pub fn event_room(random: &mut Random) -> Verdict {
     let mut lent = make::running_lent(random)?;
     let settings = lent.settings();
-    let requests = make::requests(random, &settings, 10);
+    let requests = make::further(random, &lent, 10);
     let part = make::part_of(&requests);
     let needed = 2 * requests.len() + lent.read_tally().files_kept as usize;
     let mut answers = Vec::new();
@@ -58,10 +67,9 @@ pub fn near_the_limit(random: &mut Random) -> Verdict {
     let mut lent = make::running_lent(random)?;
     let left = random.below(6);
     make::near_the_limit(random, &mut lent, left);
-    let settings = lent.settings();
     let mut answers = Vec::new();
     for _ in 0..3 {
-        let requests = make::requests(random, &settings, 7);
+        let requests = make::further(random, &lent, 7);
         answers.push(carried(random, &mut lent, &requests)?);
     }
     Ok(answers)
@@ -74,8 +82,8 @@ pub fn too_short(random: &mut Random) -> Verdict {
         craft::sound_lent(random)
     };
     let settings = lent.settings();
+    let requests = make::further(random, &lent, 10);
     fresh::shorten(random, &mut lent, &settings);
-    let requests = make::requests(random, &settings, 10);
     let part = make::part_of(&requests);
     let mut events = make::exact_list(random, 100, |word| word as u32);
     let answer = agree::carry_on(settings.unit, &mut lent, &part, &mut events)?;
@@ -91,10 +99,11 @@ pub fn large(random: &mut Random) -> Verdict {
         ..make::largest(random)
     };
     let mut lent = make::fresh_lent(random, &settings)?;
+    let mut asking = Asking::afresh(&settings);
     let mut answers = Vec::new();
     for _ in 0..2 {
         let requests: Vec<Request> = (0..settings.places)
-            .map(|_| make::request(random, &settings))
+            .map(|_| asking.request(random))
             .collect();
         answers.push(carried(random, &mut lent, &requests)?);
     }

@@ -9,7 +9,8 @@ use crate::agree::{self, Lent};
 use crate::runs::carried;
 use crate::{craft, make, Verdict};
 
-fn some_lent(random: &mut Random) -> Result<Lent, String> {
+/// Tables in the midst of a run, or any sound ones.
+pub fn some_lent(random: &mut Random) -> Result<Lent, String> {
     if random.one_in(3) {
         make::running_lent(random)
     } else {
@@ -23,9 +24,8 @@ pub fn crafted(random: &mut Random) -> Verdict {
     if !sound(&lent.read_tally(), &lent.tables) {
         return Err("the model finds crafted tables unsound".into());
     }
-    let settings = lent.settings();
     let most = random.pick(&[0, 3, 30]);
-    let requests = make::requests(random, &settings, most);
+    let requests = make::further(random, &lent, most);
     Ok(vec![carried(random, &mut lent, &requests)?])
 }
 
@@ -35,8 +35,7 @@ pub fn rearranged(random: &mut Random) -> Verdict {
     let mut answers = Vec::new();
     for _ in 0..3 {
         craft::rearrange(random, &mut lent);
-        let settings = lent.settings();
-        let requests = make::requests(random, &settings, 20);
+        let requests = make::further(random, &lent, 20);
         answers.push(carried(random, &mut lent, &requests)?);
     }
     Ok(answers)
@@ -46,7 +45,7 @@ pub fn rearranged(random: &mut Random) -> Verdict {
 pub fn one_change(random: &mut Random) -> Verdict {
     let lent = some_lent(random)?;
     let settings = lent.settings();
-    let requests = make::requests(random, &settings, 3);
+    let requests = make::further(random, &lent, 3);
     let mut answers = Vec::new();
     for _ in 0..8 {
         let mut changed = lent.clone();
@@ -61,6 +60,53 @@ pub fn one_change(random: &mut Random) -> Verdict {
         )?);
     }
     Ok(answers)
+}
+
+/// Evicted and dropped set anew: sound exactly where they still add up to the files that went, no sum being cut off.
+pub fn drops(random: &mut Random) -> Verdict {
+    let lent = some_lent(random)?;
+    let tally = lent.read_tally();
+    let part = make::part_of(&make::further(random, &lent, 3));
+    let mut answers = Vec::new();
+    for (evicted, dropped) in gone_otherwise(random, &tally) {
+        let mut changed = lent.clone();
+        changed.set_tally(&Tally {
+            evicted,
+            dropped,
+            ..tally
+        });
+        let mut events = make::events_for(random, &lent, part.len() / 3);
+        let unit = tally.settings.unit;
+        let given = agree::carry_on(unit, &mut changed, &part, &mut events)?;
+        let gone = u128::from(tally.admitted - tally.files_kept);
+        let is_sound = u128::from(evicted) + u128::from(dropped) == gone;
+        agree::same("not 7", &(given.number != 7), &is_sound)?;
+        answers.push(given);
+    }
+    Ok(answers)
+}
+
+/// Pairs of evicted and dropped: some with the old sum, some one off, some that have it only modulo 2 to the 64th.
+fn gone_otherwise(random: &mut Random, tally: &Tally) -> [(u64, u64); 10] {
+    let Tally {
+        evicted, dropped, ..
+    } = *tally;
+    let gone = evicted + dropped;
+    let part = random.between(0, gone);
+    let [few, any] = [random.between(1, 9), random.word()];
+    let half = 1 << 63;
+    [
+        (dropped, evicted),
+        (gone - part, part),
+        (gone, 0),
+        (gone, dropped),
+        (evicted, dropped + 1),
+        (evicted, dropped.wrapping_sub(1)),
+        (gone + few, few.wrapping_neg()),
+        (few.wrapping_neg(), gone + few),
+        (evicted + half, dropped + half),
+        (any, gone.wrapping_sub(any)),
+    ]
 }
 
 fn change(random: &mut Random, lent: &mut Lent) {
@@ -186,5 +232,9 @@ fn add_ghost(lent: &mut Lent, tally: &mut Tally) {
     lent.tables.place[0] = place;
     lent.tables.queue[files_kept] = place;
     tally.files_kept += 1;
-    tally.evicted = tally.evicted.wrapping_sub(1);
+    if tally.dropped > 0 {
+        tally.dropped -= 1;
+    } else {
+        tally.evicted = tally.evicted.wrapping_sub(1);
+    }
 }

@@ -2,7 +2,7 @@
 use mathlib.Core.Path.{refl}
 use borrow.Author.Needs.{needs}
 use Rattle.lines.specs.Words as word
-use Rattle.lines.proofs.Items.{Line, roomy-as, laid-as, hit-line, admit-line, big-line, low-line, evict-line}
+use Rattle.lines.proofs.Items.{Line, roomy-as, laid-as, hit-line, admit-line, big-line, low-line, stale-line, evict-line}
 use Rattle.lines.proofs.line.put_event.Statement.{statement}
 use Rattle.lines.proofs.line.put_event.Tie as tie
 
@@ -37,8 +37,14 @@ big→start c = other→start (c .before .before)
 abbrev low→start : tie.Then4 → tie.Start
 low→start c = other→start (c .before .before .before)
 
-abbrev evict→start : tie.Else4 → tie.Start
-evict→start c = other→start (c .before .before .before)
+abbrev last→start : tie.Else4 → tie.Start
+last→start c = other→start (c .before .before .before)
+
+abbrev stale→start : tie.Then5 → tie.Start
+stale→start c = last→start (c .before)
+
+abbrev evict→start : tie.Else5 → tie.Start
+evict→start c = last→start (c .before)
 
 -- the line in each branch
 is-hit : (c : tie.Then1) → Line (hit→start c .args .event) word.hit
@@ -53,8 +59,15 @@ is-big c = big-line _ (c .before .before .if1 .left) (c .before .if2 .left) (c .
 is-low : (c : tie.Then4) → Line (low→start c .args .event) word.low
 is-low c = low-line _ (c .before .before .before .if1 .left) (c .before .before .if2 .left) (c .before .if3 .left) (c .if4 .taken)
 
-is-evict : (c : tie.Else4) → Line (evict→start c .args .event) word.evict
-is-evict c = evict-line _ (c .before .before .before .if1 .left) (c .before .before .if2 .left) (c .before .if3 .left) (c .if4 .left)
+is-stale : (c : tie.Then5) → Line (stale→start c .args .event) word.stale
+is-stale c =
+    let last = c .before in
+    stale-line _ (last .before .before .before .if1 .left) (last .before .before .if2 .left) (last .before .if3 .left) (last .if4 .left) (c .if5 .taken)
+
+is-evict : (c : tie.Else5) → Line (evict→start c .args .event) word.evict
+is-evict c =
+    let last = c .before in
+    evict-line _ (last .before .before .before .if1 .left) (last .before .before .if2 .left) (last .before .if3 .left) (last .if4 .left) (c .if5 .left)
 
 slice-aggregate-put-item : tie.Need-slice-aggregate-put-item
 slice-aggregate-put-item c = refl
@@ -96,10 +109,19 @@ slice-aggregate-put-item-5 : tie.Need-slice-aggregate-put-item-5
 slice-aggregate-put-item-5 c = refl
 
 put-item-requires-5 : tie.Need-put-item-requires-5
-put-item-requires-5 c κs = let evict = c .before .before in roomy-as (is-evict evict) (evict→start evict .pre)
+put-item-requires-5 c κs = let stale = c .before .before in roomy-as (is-stale stale) (stale→start stale .pre)
 
 returns-5 : tie.Need-returns-5
-returns-5 c = laid-as (is-evict (c .before .before .before .before .before)) (c .before .before .put-item5 .ensures)
+returns-5 c = laid-as (is-stale (c .before .before .before .before .before)) (c .before .before .put-item5 .ensures)
+
+slice-aggregate-put-item-6 : tie.Need-slice-aggregate-put-item-6
+slice-aggregate-put-item-6 c = refl
+
+put-item-requires-6 : tie.Need-put-item-requires-6
+put-item-requires-6 c κs = let evict = c .before .before in roomy-as (is-evict evict) (evict→start evict .pre)
+
+returns-6 : tie.Need-returns-6
+returns-6 c = laid-as (is-evict (c .before .before .before .before .before)) (c .before .before .put-item6 .ensures)
 
 pub put-event-spec : {M : Type 1} → statement M
 put-event-spec =
@@ -107,4 +129,4 @@ put-event-spec =
     (tie.spec cast-kind div-kind cast-file rem-file cast-file-2 slice-aggregate-put-item put-item-requires (λ c. search needs) returns
     slice-aggregate-put-item-2 put-item-requires-2 (λ c. search needs) returns-2 slice-aggregate-put-item-3 put-item-requires-3 (λ c. search needs)
     returns-3 slice-aggregate-put-item-4 put-item-requires-4 (λ c. search needs) returns-4 slice-aggregate-put-item-5 put-item-requires-5
-    (λ c. search needs) returns-5)
+    (λ c. search needs) returns-5 slice-aggregate-put-item-6 put-item-requires-6 (λ c. search needs) returns-6)

@@ -48,21 +48,37 @@ put-item-requires-5 c κs =
     let admitted = passed .before .before .before .before .before in
     let hits = admitted .before .before .before .before .before in
     let requests = hits .before .before .before .before .before in
-    roomy-next _ _ _ _ _ _ (passed .put-item4 .ensures) (roomy-next _ _ _ _ _ _ (admitted .put-item3 .ensures)
-    (roomy-next _ _ _ _ _ _ (hits .put-item2 .ensures) (roomy-next _ _ _ _ _ _ (requests .put-item .ensures) (requests .before .before .before .before .pre))))
+    roomy-front _ _ _ _ (roomy-next _ _ _ _ _ _ (passed .put-item4 .ensures) (roomy-next _ _ _ _ _ _ (admitted .put-item3 .ensures)
+    (roomy-next _ _ _ _ _ _ (hits .put-item2 .ensures) (roomy-next _ _ _ _ _ _ (requests .put-item .ensures) (requests .before .before .before .before .pre)))))
+
+slice-aggregate-put-item-6 : tie.Need-slice-aggregate-put-item-6
+slice-aggregate-put-item-6 c = refl
+
+put-item-requires-6 : tie.Need-put-item-requires-6
+put-item-requires-6 c κs =
+    let evicted = c .before .before .before .before in
+    let passed = evicted .before .before .before .before .before in
+    let admitted = passed .before .before .before .before .before in
+    let hits = admitted .before .before .before .before .before in
+    let requests = hits .before .before .before .before .before in
+    roomy-next _ _ _ _ _ _ (evicted .put-item5 .ensures) (roomy-next _ _ _ _ _ _ (passed .put-item4 .ensures) (roomy-next _ _ _ _ _ _ (admitted .put-item3 .ensures)
+    (roomy-next _ _ _ _ _ _ (hits .put-item2 .ensures) (roomy-next _ _ _ _ _ _ (requests .put-item .ensures) (requests .before .before .before .before .pre)))))
 
 returns : tie.Need-returns
 returns c =
-    let evicted = c .before .before in
+    let dropped = c .before .before in
+    let evicted = dropped .before .before .before .before .before in
     let passed = evicted .before .before .before .before .before in
     let admitted = passed .before .before .before .before .before in
     let hits = admitted .before .before .before .before .before in
     let requests = hits .before .before .before .before .before in
     laid-then _ _ _ _ _ _ (requests .put-item .ensures) _ _ (laid-then _ _ _ _ _ _ (hits .put-item2 .ensures) _ _
-    (laid-then _ _ _ _ _ _ (admitted .put-item3 .ensures) _ _ (laid-then _ _ _ _ _ _ (passed .put-item4 .ensures) _ _ (evicted .put-item5 .ensures))))
+    (laid-then _ _ _ _ _ _ (admitted .put-item3 .ensures) _ _ (laid-then _ _ _ _ _ _ (passed .put-item4 .ensures) _ _
+    (laid-then _ _ _ _ _ _ (evicted .put-item5 .ensures) _ _ (dropped .put-item6 .ensures)))))
 
 pub put-counts-spec : {M : Type 1} → statement M
 put-counts-spec =
     tie.close
     (tie.spec slice-aggregate-put-item put-item-requires slice-aggregate-put-item-2 put-item-requires-2 slice-aggregate-put-item-3 put-item-requires-3
-    slice-aggregate-put-item-4 put-item-requires-4 slice-aggregate-put-item-5 put-item-requires-5 (λ c. search needs) returns)
+    slice-aggregate-put-item-4 put-item-requires-4 slice-aggregate-put-item-5 put-item-requires-5 slice-aggregate-put-item-6 put-item-requires-6
+    (λ c. search needs) returns)

@@ -14,7 +14,18 @@ abbrev entered : Tally → Room → ℕ → ℕ → Tally
 entered b room kept evicted =
     let y = totalsOf b in
     tallied b (room .inflation .0) kept (room .left + 1)
-    (record { requests = y .requests; hits = y .hits; admitted = y .admitted; passed = y .passed; evicted = evicted; bytes = y .bytes; hitBytes = y .hitBytes; cost = y .cost; hitCost = y .hitCost })
+    (record {
+      requests = y .requests;
+      hits = y .hits;
+      admitted = y .admitted;
+      passed = y .passed;
+      evicted = evicted;
+      dropped = y .dropped;
+      bytes = y .bytes;
+      hitBytes = y .hitBytes;
+      cost = y .cost;
+      hitCost = y .hitCost;
+    })
 
 with-admit-requires : tie.Need-with-admit-requires
 with-admit-requires c κs = search needs

@@ -17,10 +17,13 @@ returns : tie.Need-returns
 returns c = answer-no (λ n. failed (c .before .counts-agree .ensures) (c .if1 .taken) (record { few = n .few; outcomes = n .agreed .outcomes; bytes = n .agreed .bytes }))
 
 returns-2 : tie.Need-returns-2
-returns-2 c = answer-no (λ n. omega (arith, n .agreed .evicted))
+returns-2 c = answer-no (λ n. omega (arith, n .agreed .gone))
 
 returns-3 : tie.Need-returns-3
-returns-3 c = answer-no (λ n. omega (arith, n .agreed .evicted))
+returns-3 c = answer-no (λ n. omega (arith, n .agreed .gone))
+
+returns-4 : tie.Need-returns-4
+returns-4 c = answer-no (λ n. omega (arith, n .agreed .gone))
 
 cost-agrees-requires : tie.Need-cost-agrees-requires
 cost-agrees-requires c κs =
@@ -28,11 +31,11 @@ cost-agrees-requires c κs =
     let h = counted agreed in
     (omega (arith, h .few, h .outcomes), h .few)
 
-returns-4 : tie.Need-returns-4
-returns-4 c =
+returns-5 : tie.Need-returns-5
+returns-5 c =
     let agreed : tie.Else1 = search in
     let h = counted agreed in
-    answer-as (c .cost-agrees .ensures) (λ w. record { few = h .few; agreed = record { outcomes = h .outcomes; evicted = omega arith; bytes = h .bytes; cost = w } }) (λ n. n .agreed .cost)
+    answer-as (c .cost-agrees .ensures) (λ w. record { few = h .few; agreed = record { outcomes = h .outcomes; gone = omega arith; bytes = h .bytes; cost = w } }) (λ n. n .agreed .cost)
 
 pub totals-agree-spec : {M : Type 1} → statement M
-totals-agree-spec = tie.close (tie.spec counts-agree-requires returns returns-2 returns-3 cost-agrees-requires returns-4)
+totals-agree-spec = tie.close (tie.spec counts-agree-requires returns returns-2 returns-3 returns-4 cost-agrees-requires returns-5)

@@ -10,10 +10,9 @@ use Rattle.amounts.specs.declared.settings.Settings.{Settings}
 use Rattle.tables.specs.Tables.{Tables}
 use Rattle.tables.specs.Sound.{Occupied}
 use Rattle.tables.proofs.Lengths.{tables-eq}
-use Rattle.shelving.specs.Live.{Live}
+use Rattle.shelving.specs.Live.{Live, beyondOf}
 use Rattle.shelving.specs.Evicting.{withQueue, lastPlace, dropLast, dropAll}
 use Rattle.shelving.proofs.Dropping.{live-last}
-use Rattle.admitting.specs.Deciding.{beyondOf}
 
 -- a list that differs in the first k entries only is the same from there on
 pub drop-same : (l m : List ℕ) (k n : ℕ) → length m ≡ length l → k ≤ n → ((i : ℕ) → k ≤ i → getD m i 0 ≡ getD l i 0) → drop n m ≡ drop n l

@@ -1,4 +1,4 @@
--- `shelving::hitting::hit` meets its contract. Assumes nothing.
+-- `hitting::renewal::hit` meets its contract. Assumes nothing.
 use Prim.Native.Nat.{ℕ, _+_, _*_, _^_, _<_, _≤_}
 use mathlib.Core.Path.{_≡_, sym, ap, _∙_, subst₂}
 use native.Mathlib.Omega.{arith}
@@ -11,10 +11,10 @@ use Rattle.amounts.proofs.Tests.{in-one-to}
 use Rattle.method.specs.Method as method
 use Rattle.tables.specs.Tally.{policyIn}
 use Rattle.counting.specs.Counting.{hitTally, Countable}
-use Rattle.shelving.specs.Hitting.{freqAfter, keyAfter}
-use Rattle.shelving.proofs.Hits.{again-most, rekeyed-at}
-use Rattle.shelving.proofs.hitting.hit.Statement.{statement}
-use Rattle.shelving.proofs.hitting.hit.Tie as tie
+use Rattle.hitting.specs.Hitting.{freqAfter, keyAfter}
+use Rattle.hitting.proofs.Hits.{again-most, rekeyed-at}
+use Rattle.hitting.proofs.renewal.hit.Statement.{statement}
+use Rattle.hitting.proofs.renewal.hit.Tie as tie
 
 -- ---- the ways back, each to a place that a need reads
 

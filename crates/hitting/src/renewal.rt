@@ -1,15 +1,15 @@
 // A hit: the kept file's key is set anew, and its queue entry moves to where it then belongs.
-use crate::wide::wide16;
-use crate::wide::wide32;
 use amounts::Bytes;
 use amounts::Cost;
 use amounts::Policy;
+use shelving::wide16;
+use shelving::wide32;
 use tables::Tally;
 ghost use mathlib.Core.Path.{_≡_};
 ghost use Prim.Native.Nat.{_<_};
 ghost use Rattle.amounts.specs.Limits.{requestsMost};
 ghost use Rattle.method.specs.Method as method;
-ghost use Rattle.shelving.specs.Hitting.{Hittable, HitDone};
+ghost use Rattle.hitting.specs.Hitting.{Hittable, HitDone};
 
 // The frequency after a hit: policy 1 does not count.
 fn again(policy: Policy, frequency: u64) -> u64

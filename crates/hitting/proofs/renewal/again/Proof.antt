@@ -1,9 +1,9 @@
--- `shelving::hitting::again` meets its contract. Assumes nothing.
+-- `hitting::renewal::again` meets its contract. Assumes nothing.
 use native.Mathlib.Numerals.{add-one}
 use borrow.Author.Needs.{needs}
 use Rattle.amounts.proofs.Tests.{told}
-use Rattle.shelving.proofs.hitting.again.Statement.{statement}
-use Rattle.shelving.proofs.hitting.again.Tie as tie
+use Rattle.hitting.proofs.renewal.again.Statement.{statement}
+use Rattle.hitting.proofs.renewal.again.Tie as tie
 
 without-frequency-requires : tie.Need-without-frequency-requires
 without-frequency-requires c κs = search needs

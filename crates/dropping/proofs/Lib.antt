@@ -1,0 +1,3 @@
+-- The laws of this room.
+pub mod Droppings
+pub mod Cleanings

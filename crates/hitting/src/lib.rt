@@ -1,0 +1,4 @@
+// A hit on a kept file.
+mod renewal;
+
+pub use renewal::hit;
