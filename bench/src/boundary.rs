@@ -1,4 +1,4 @@
-//! The nine functions of the archive, each behind a safe function over slices.
+//! The ten functions of the archive, each behind a safe function over slices.
 
 use crate::model::red_card::Answer;
 use crate::model::tables::Tables;
@@ -136,6 +136,13 @@ extern "C" {
         log_length: usize,
         out: *mut u8,
         out_length: usize,
+    ) -> u64;
+
+    fn snailstamp_ratios(
+        tally: *const u64,
+        tally_length: usize,
+        ratios: *mut f64,
+        ratios_length: usize,
     ) -> u64;
 }
 
@@ -369,5 +376,11 @@ pub fn squid_part(catalogue: u64, log: &[u8], out: &mut [u8]) -> Answer {
             out.as_mut_ptr(),
             out.len(),
         )
+    })
+}
+
+pub fn ratios(tally: &[u64], list: &mut [f64]) -> Answer {
+    decoded(unsafe {
+        snailstamp_ratios(tally.as_ptr(), tally.len(), list.as_mut_ptr(), list.len())
     })
 }

@@ -5,7 +5,7 @@ use super::pieces::fresh_tables;
 use super::run::{Kept, Outcome, Reply, Run};
 use super::sheet::sheet;
 use super::soundness::sound;
-use super::tables::{carry_on, fresh, Tables};
+use super::tables::carry_on;
 use super::tally::{Settings, Tally};
 use super::trace::{write_number, Request};
 use crate::random::Random;

@@ -15,6 +15,7 @@ pub enum Refusal {
     LongInput,
     /// The number of a log's line, counted from 1.
     BadLine(usize),
+    NoRequests,
 }
 
 impl Refusal {
@@ -30,6 +31,7 @@ impl Refusal {
             Refusal::OtherUnit => 8,
             Refusal::LongInput => 9,
             Refusal::BadLine(_) => 10,
+            Refusal::NoRequests => 11,
         }
     }
 

@@ -7,8 +7,10 @@ use super::tally::Tally;
 
 /// For settings in range and tables long enough for them; entries beyond are not read.
 pub fn sound(tally: &Tally, tables: &Tables) -> bool {
-    counts_agree(tally)
-        && totals_in_range(tally)
+    requests_add_up(tally)
+        && admitted_add_up(tally)
+        && bytes_in_range(tally)
+        && cost_in_range(tally)
         && points_both_ways(tally, tables)
         && queue_holds_each_once(tally, tables)
         && queue_in_order(tally, tables)
@@ -24,16 +26,21 @@ fn wide(word: u64) -> u128 {
     word.into()
 }
 
-fn counts_agree(tally: &Tally) -> bool {
+pub(super) fn requests_add_up(tally: &Tally) -> bool {
     wide(tally.hits) + wide(tally.admitted) + wide(tally.passed) == wide(tally.requests)
         && tally.requests <= MOST_REQUESTS
-        && wide(tally.evicted) + wide(tally.dropped) + wide(tally.files_kept)
-            == wide(tally.admitted)
 }
 
-fn totals_in_range(tally: &Tally) -> bool {
+fn admitted_add_up(tally: &Tally) -> bool {
+    wide(tally.evicted) + wide(tally.dropped) + wide(tally.files_kept) == wide(tally.admitted)
+}
+
+pub(super) fn bytes_in_range(tally: &Tally) -> bool {
     total_in_range(tally, tally.bytes_asked, tally.hit_bytes, MOST_SIZE)
-        && total_in_range(tally, tally.cost_asked, tally.hit_cost, MOST_COST)
+}
+
+fn cost_in_range(tally: &Tally) -> bool {
+    total_in_range(tally, tally.cost_asked, tally.hit_cost, MOST_COST)
 }
 
 fn total_in_range(tally: &Tally, asked: u64, hit: u64, most: u64) -> bool {

@@ -23,6 +23,8 @@ pub enum Refusal {
     TooLong,
     // A line of a log lacks a field, or counts and has a bad number or range: its number, from 1.
     Line(usize),
+    // A tally has no requests to make a ratio of.
+    NoRequests,
 }
 
 impl Refusal {
@@ -41,6 +43,7 @@ impl Refusal {
             Refusal::OtherUnit => 8,
             Refusal::TooLong => 9,
             Refusal::Line(_) => 10,
+            Refusal::NoRequests => 11,
         }
     }
 
@@ -59,6 +62,7 @@ impl Refusal {
             Refusal::Unsound => 0,
             Refusal::OtherUnit => 0,
             Refusal::TooLong => 0,
+            Refusal::NoRequests => 0,
         }
     }
 }

@@ -82,7 +82,7 @@ module _ {a : Tally} {p : ℕ} {t : Tables} {entry free : List ℕ} (h : Standin
       record {
         some = some;
         part = omega (arith, e, sum-at (λ r. r .size) shelf file was slot, w .bytes);
-        gone = omega (arith, w .agreed .gone, w .agreed .outcomes, w .few, some);
+        gone = omega (arith, w .agreed .gone, w .agreed .counts .outcomes, w .few, some);
       }
 
   -- ---- the file is set aside behind the queue
@@ -144,7 +144,7 @@ module _ {a : Tally} {p : ℕ} {t : Tables} {entry free : List ℕ} (h : Standin
       agreed : Agreed (n - 1) (droppedTotals (totalsOf a))
       agreed =
           let g = h .running .sound .agreed in
-          record { outcomes = g .outcomes; gone = omega (arith, g .gone, some); bytes = g .bytes; cost = g .cost }
+          record { counts = record { outcomes = g .counts .outcomes; bytes = g .counts .bytes }; gone = omega (arith, g .gone, some); cost = g .cost }
 
       running : Running (droppedTally a (was .size)) u entry′ free′
       running =

@@ -17,7 +17,7 @@ use Rattle.tables.specs.Tables.{Tables}
 use Rattle.tables.specs.Below.{sumBelow}
 use Rattle.tables.specs.Sound.{Occupied, Zero}
 use Rattle.tables.proofs.Counting.{sum-below-more}
-use Rattle.weighing.proofs.Answers.{answer-yes, answer-no}
+use Rattle.tables.proofs.Answers.{answer-yes, answer-no}
 use Rattle.judge.specs.Passes.{noted, Stackable, Stacked}
 
 pub noted-none : (entry : List ℕ) (p : ℕ) → getD entry p 0 ≡ noPlace → noted entry p ≡ 0

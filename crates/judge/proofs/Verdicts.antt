@@ -23,7 +23,9 @@ use Rattle.tables.specs.declared.tally.Tally.{Tally}
 use Rattle.tables.proofs.Ranges.{bounded}
 use Rattle.tables.proofs.Shelves.{slot-none, slot-kept, shelf-length, shelf-at}
 use Rattle.tables.proofs.Counting.{sum-below-same, held-together}
-use Rattle.weighing.specs.Weighing.{Exact, Numbers, Right, Shelvable, Filed}
+use Rattle.tables.specs.Exact.{Exact}
+use Rattle.totals.specs.Totals.{Numbers}
+use Rattle.weighing.specs.Weighing.{Right, Shelvable, Filed}
 use Rattle.judge.specs.Judge.{Lent}
 use Rattle.judge.specs.Passes.{Indexable, Index, noted, Stackable, Used, Own, Stamped}
 use Rattle.judge.proofs.Stacking.{noted-none, noted-some}

@@ -12,7 +12,8 @@ use Rattle.queue.specs.Queue.{one, total, times, Indexed, Whole}
 use Rattle.tables.specs.Tables.{Tables}
 use Rattle.tables.specs.Below.{sumBelow}
 use Rattle.tables.specs.Sound.{Occupied, Unused, Entries, Queued, Spare}
-use Rattle.weighing.specs.Weighing.{Exact, Covered}
+use Rattle.tables.specs.Exact.{Exact}
+use Rattle.weighing.specs.Weighing.{Covered}
 
 -- ---- The queue
 

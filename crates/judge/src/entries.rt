@@ -7,7 +7,7 @@ ghost use Prim.Native.Nat.{_≤_};
 ghost use lib.ListN.{length};
 ghost use Rattle.tables.specs.Tables.{tables};
 ghost use Rattle.tables.specs.Sound.{Occupied, Rest};
-ghost use Rattle.weighing.specs.Weighing.{Exact};
+ghost use Rattle.tables.specs.Exact.{Exact};
 ghost use Rattle.judge.specs.Passes.{Indexable, Unnoted, Noted};
 
 // Whether a place and its file point at each other.

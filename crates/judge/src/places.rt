@@ -6,7 +6,8 @@ ghost use mathlib.Core.List.{[]};
 ghost use Prim.Native.Nat.{_+_};
 ghost use Rattle.tables.specs.Tables.{tables};
 ghost use Rattle.tables.specs.Sound.{Zero};
-ghost use Rattle.weighing.specs.Weighing.{Exact, Covered};
+ghost use Rattle.tables.specs.Exact.{Exact};
+ghost use Rattle.weighing.specs.Weighing.{Covered};
 ghost use Rattle.judge.specs.Passes.{Stackable, Stacked};
 
 // Whether the record at a place is 0.

@@ -44,9 +44,11 @@ amount-counted (Passed w) n l m g = record { hit-least = omega arith; hit-most =
 pub counted-agreed : (k k′ : ℕ) (a : Reply) (y : Totals) → Valued (a .size) (a .cost)
     → copies (a .dropped) + length (a .evicted) + k′ ≡ k + onAdmitted (a .outcome) 1 → Agreed k y → Agreed k′ (counted y a)
 counted-agreed k k′ a y v e g = record {
-  outcomes = omega (arith, one-kind (a .outcome), g .outcomes);
+  counts = record {
+    outcomes = omega (arith, one-kind (a .outcome), g .counts .outcomes);
+    bytes = amount-counted (a .outcome) (a .size) (v .size-least) (v .size-most) (g .counts .bytes);
+  };
   gone = omega (arith, g .gone);
-  bytes = amount-counted (a .outcome) (a .size) (v .size-least) (v .size-most) (g .bytes);
   cost = amount-counted (a .outcome) (a .cost) (v .cost-least) (v .cost-most) (g .cost);
 }
 
@@ -68,9 +70,11 @@ run-agreed p c one st n h (q ∷ qs) v y g =
 pub zeros-agreed : Agreed 0 zeros
 zeros-agreed =
     record {
-      outcomes = refl;
+      counts = record {
+        outcomes = refl;
+        bytes = record { hit-least = omega arith; hit-most = omega arith; hit-asked = omega arith; asked-least = omega arith; asked-most = omega arith };
+      };
       gone = refl;
-      bytes = record { hit-least = omega arith; hit-most = omega arith; hit-asked = omega arith; asked-least = omega arith; asked-most = omega arith };
       cost = record { hit-least = omega arith; hit-most = omega arith; hit-asked = omega arith; asked-least = omega arith; asked-most = omega arith };
     }
 

@@ -74,10 +74,14 @@ pub record Amount (most hits requests part whole : ℕ) : Type 0 where
   pub asked-least : requests ≤ whole
   pub asked-most : whole ≤ requests * most
 
+-- document 01, "Tables and the tally": what soundness asks of requests and bytes
+pub record Counts (y : Totals) : Type 0 where
+  pub outcomes : y .hits + y .admitted + y .passed ≡ y .requests
+  pub bytes : Amount sizeMost (y .hits) (y .requests) (y .hitBytes) (y .bytes)
+
 -- document 01, "Tables and the tally": what soundness asks of the totals, with so many files kept
 pub record Agreed (kept : ℕ) (y : Totals) : Type 0 where
-  pub outcomes : y .hits + y .admitted + y .passed ≡ y .requests
+  pub counts : Counts y
   -- document 02, ticket 2: evicted + dropped + files kept = admitted
   pub gone : y .evicted + y .dropped + kept ≡ y .admitted
-  pub bytes : Amount sizeMost (y .hits) (y .requests) (y .hitBytes) (y .bytes)
   pub cost : Amount costMost (y .hits) (y .requests) (y .hitCost) (y .cost)

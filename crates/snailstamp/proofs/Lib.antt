@@ -2,5 +2,6 @@
 pub mod Starting
 pub mod Carrying
 pub mod Tracing
+pub mod Rating
 pub mod Refusing
 pub mod OneAnswer

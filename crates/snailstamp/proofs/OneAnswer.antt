@@ -1,21 +1,26 @@
 -- Each promise admits one answer and one content of what is lent (document 01, "How much each promise says"). Assumes nothing.
 use mathlib.Core.Path.{_≡_, refl, ap, sym, _∙_, subst}
+use mathlib.Core.Bool.{Bool, true, false}
 use mathlib.Core.List.{List}
 use Prim.Native.Nat.{ℕ, _%_}
 use lib.ListN.{drop}
 use lib.Seq.{drop-at}
+use lib.Ieee.{Float}
 use Rattle.amounts.specs.declared.settings.Settings.{Settings}
 use Rattle.card.specs.Card.{cardOf}
 use Rattle.card.specs.declared.Refusal.{Refusal}
 use Rattle.card.proofs.Cases.{refusal-not-done}
 use Rattle.trace.specs.Writing.{Put}
 use Rattle.trace.specs.Cards.{answerCard}
+use Rattle.trace.specs.Promise.{over}
 use Rattle.trace.specs.declared.answer.Answer.{Answer}
 use Rattle.trace.specs.declared.answer.Answer.the-variants.{Done, Refused}
 use Rattle.tables.specs.Tables.{Tables}
 use Rattle.tables.specs.Start.{words}
 use Rattle.tables.specs.Renaming.{Renamed}
 use Rattle.tables.specs.declared.tally.Tally.{Tally}
+use Rattle.ratios.specs.Ratios.{RatioCard}
+use Rattle.ratios.proofs.Rating.{rates-one}
 use Rattle.serving.specs.Serving.{beyondOf}
 use Rattle.refusing.specs.declared.settings.Settled.{Settled}
 use Rattle.refusing.specs.declared.settings.Settled.the-variants as verdict
@@ -24,7 +29,8 @@ use Rattle.replay.proofs.Cases.{dueHere, answers, past}
 use Rattle.replay.proofs.OneAnswer.{carry-on-one-answer}
 use Rattle.words.specs.Words.{answerWord, tallyWords, tallyIn}
 use Rattle.words.proofs.Wording.{number-small, number-in, tally-over}
-use Rattle.snailstamp.specs.Run.{FreshWords, carriedWords, CarriedOn, worded, WordsSettle, CarriedWords, AlikeWords}
+use Rattle.snailstamp.specs.Rates.{fitted, RatesWords, RatioWords}
+use Rattle.snailstamp.specs.Run.{enough, FreshWords, carriedWords, CarriedOn, worded, WordsSettle, CarriedWords, AlikeWords}
 use Rattle.snailstamp.specs.Logs.{SquidFileWords, SquidPartWords}
 use Rattle.snailstamp.specs.Sheets.{SheetWords}
 use Rattle.snailstamp.specs.Traces.{ReadFileWords, ReadPartWords, WroteWords, WroteFileWords, WrotePartWords}
@@ -137,3 +143,13 @@ squid-part-one c log o r₁ r₂ o₁ o₂ h k = wrote-one _ o r₁ r₂ o₁ o�
 -- `snailstamp_sheet`
 pub sheet-one : (trace o : List ℕ) (r₁ r₂ : ℕ) (o₁ o₂ : List ℕ) → SheetWords trace o r₁ o₁ → SheetWords trace o r₂ o₂ → (r₁ ≡ r₂) × (o₁ ≡ o₂)
 sheet-one trace o r₁ r₂ o₁ o₂ h k = (h .answer ∙ sym (k .answer), h .buffer ∙ sym (k .buffer))
+
+-- `snailstamp_ratios`
+due-one : (w : List ℕ) (x y : RatioCard) (b : Bool) → RatesWords w x b → RatesWords w y b → x ≡ y
+due-one w x y false p q = p ∙ sym q
+due-one w x y true p q = rates-one (tallyIn w) x y p q
+
+pub ratios-one : (w : List ℕ) (l : List Float) (r₁ r₂ : ℕ) (l₁ l₂ : List Float) → RatioWords w l r₁ l₁ → RatioWords w l r₂ l₂ → (r₁ ≡ r₂) × (l₁ ≡ l₂)
+ratios-one w l r₁ r₂ l₁ l₂ f g =
+    let e = due-one w (f .due) (g .due) (enough w) (f .rates) (g .rates) in
+    (f .put .answer ∙ ap (λ (x : RatioCard). answerWord (fitted l x .card)) e ∙ sym (g .put .answer), f .put .list ∙ ap (λ (x : RatioCard). over (fitted l x .doubles) l) e ∙ sym (g .put .list))

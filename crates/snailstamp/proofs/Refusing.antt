@@ -4,9 +4,13 @@ use mathlib.Core.Bool.{Bool, true, false}
 use mathlib.Core.List.{List, []}
 use Prim.Native.Nat.{ℕ, _%_}
 use native.Mathlib.Omega.{arith}
+use lib.Dec.{leb}
+use lib.ListN.{length}
+use lib.Ieee.{Float}
 use Rattle.amounts.specs.Settings.{inRange}
 use Rattle.amounts.specs.declared.settings.Settings.{Settings}
-use Rattle.card.specs.Card.{Card, done}
+use Rattle.amounts.proofs.Tests.{pick-true, pick-false}
+use Rattle.card.specs.Card.{Card, done, refused}
 use Rattle.trace.specs.Reading.{Read, good, stop, partRead, rows}
 use Rattle.trace.specs.Writing.{Put, bytes, written}
 use Rattle.trace.specs.Writing as w
@@ -17,14 +21,19 @@ use Rattle.trace.specs.declared.answer.Answer.the-variants.{Done, Refused}
 use Rattle.trace.proofs.OneAnswer.{answer-one}
 use Rattle.tables.specs.Tables.{Tables}
 use Rattle.tables.specs.Start.{long, startTables}
+use Rattle.ratios.specs.Ratios.{RatioCard, giving, refusing, Rates}
+use Rattle.ratios.specs.declared.answer.Ratios.{Ratios}
+use Rattle.ratios.proofs.Rating.{Case, empty, broken, whole, case-of}
 use Rattle.refusing.specs.declared.settings.Settled.{Settled}
 use Rattle.refusing.specs.declared.settings.Settled.the-variants as verdict
 use Rattle.replay.specs.Carrying.{Answers}
 use Rattle.replay.proofs.Cases.{dueHere, answers}
 use Rattle.words.specs.Words.{answerWord, tallyIn}
 use Rattle.words.proofs.Wording.{number-in}
+use Rattle.snailstamp.specs.Rates.{fitted, PutRated, RatesWords, RatioWords}
 use Rattle.snailstamp.specs.Run.{enough, freshCard, freshWords, freshTables, FreshWords, carriedWords, CarriedOn, worded, WordsSettle, CarriedWords}
 use Rattle.snailstamp.specs.Traces.{fileTaken, ReadFileAs, ReadFileWords, ReadPartWords, WroteWords}
+use Rattle.snailstamp.proofs.Rating.{fits-refusing}
 
 -- the word of a card with the number 0 is no refusal
 done-number : (r : ℕ) (c : Card) → c .number ≡ 0 → r ≡ answerWord c → r % 256 ≡ 0
@@ -81,3 +90,27 @@ module _ (r : ℕ) (n : r % 256 ≡ 0 → ⊥) where
       go : (x : Put) → r ≡ answerWord (putCard x) → o′ ≡ over (written x) o → o′ ≡ o
       go (bytes bs) e b = absurd (n (done-number r (putCard (bytes bs)) refl e))
       go (w.stop x) e b = b
+
+-- the ratios
+module _ (l : List Float) (r : ℕ) (n : r % 256 ≡ 0 → ⊥) (l′ : List Float) where
+  refusing-still : (x : RatioCard) (c : Card) → x ≡ refusing c → PutRated x l r l′ → l′ ≡ l
+  refusing-still x c e p = p .list ∙ ap (λ (z : RatioCard). over (z .doubles) l) (ap (fitted l) e ∙ fits-refusing l c)
+
+  giving-still : (x : RatioCard) (y : Ratios) → x ≡ giving y → PutRated x l r l′ → l′ ≡ l
+  giving-still x y e p = go (leb 2 (length l)) refl
+    where
+      go : (b : Bool) → leb 2 (length l) ≡ b → l′ ≡ l
+      go true h = absurd (n (done-number r (done []) refl (p .answer ∙ ap (λ (z : RatioCard). answerWord (z .card)) (ap (fitted l) e ∙ pick-true _ _ h))))
+      go false h = p .list ∙ ap (λ (z : RatioCard). over (z .doubles) l) (ap (fitted l) e ∙ pick-false _ _ h)
+
+  pub ratios-still : (w : List ℕ) → RatioWords w l r l′ → l′ ≡ l
+  ratios-still w f = go (enough w) (f .rates)
+    where
+      rated : Case (tallyIn w) → Rates (tallyIn w) (f .due) → l′ ≡ l
+      rated (empty e) p = refusing-still (f .due) (refused 11 []) (p .none e) (f .put)
+      rated (broken m nc) p = refusing-still (f .due) (refused 7 []) (p .unsound m nc) (f .put)
+      rated (whole m h) p = giving-still (f .due) _ (p .rated m h) (f .put)
+
+      go : (b : Bool) → RatesWords w (f .due) b → l′ ≡ l
+      go false p = refusing-still (f .due) (refused 2 []) p (f .put)
+      go true p = rated (case-of (tallyIn w)) p

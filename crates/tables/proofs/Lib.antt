@@ -9,5 +9,6 @@ pub mod Counting
 pub mod Twins
 pub mod Worked
 pub mod Deciding
+pub mod Answers
 pub mod SoundDecided
 pub mod Renamings

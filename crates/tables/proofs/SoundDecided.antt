@@ -11,12 +11,12 @@ use Rattle.amounts.proofs.Tests.{same}
 use Rattle.queue.specs.Queue.{lowerAt, times, above, Ordered}
 use Rattle.method.specs.Shelf.{Kept, Slot, none, kept, Shelf, sum, bytes, files, product, Each}
 use Rattle.method.specs.Method as method
-use Rattle.method.specs.Totals.{Totals, Amount, Agreed}
+use Rattle.method.specs.Totals.{Totals, Amount, Counts, Agreed}
 use Rattle.method.specs.Promise as promise
 use Rattle.method.proofs.Shelves.{none-kept, is-kept, kept-lt, each-cons}
 use Rattle.tables.specs.Tables.{Tables}
 use Rattle.tables.specs.Tally.{storeOf, policyIn, totalsOf, stateOf}
-use Rattle.tables.specs.Sound.{At, Occupied, Zero, Linked, Queued, Sound}
+use Rattle.tables.specs.Sound.{Counted, At, Occupied, Zero, Linked, Queued, Sound}
 use Rattle.tables.specs.declared.tally.Tally.{Tally}
 use Rattle.tables.proofs.Deciding.{Decided, decide-as, decide-both, decide-either, decide-if, decide-not, decide-le, decide-lt, decide-false, all-below}
 
@@ -28,12 +28,19 @@ amount m h n x y =
     (λ g. (g .hit-least, (g .hit-most, (g .hit-asked, (g .asked-least, g .asked-most)))))
     (decide-both (decide-le h x) (decide-both (decide-le x (h * m)) (decide-both (decide-le x y) (decide-both (decide-le n y) (decide-le y (n * m))))))
 
+counts : (y : Totals) → Decided (Counts y)
+counts y =
+    decide-as (λ p. record { outcomes = p .0; bytes = p .1 }) (λ g. (g .outcomes, g .bytes))
+    (decide-both (same (y .hits + y .admitted + y .passed) (y .requests)) (amount sizeMost (y .hits) (y .requests) (y .hitBytes) (y .bytes)))
+
 agreed : (k : ℕ) (y : Totals) → Decided (Agreed k y)
 agreed k y =
-    decide-as (λ p. record { outcomes = p .0; gone = p .1 .0; bytes = p .1 .1 .0; cost = p .1 .1 .1 }) (λ g. (g .outcomes, (g .gone, (g .bytes, g .cost))))
-    (decide-both (same (y .hits + y .admitted + y .passed) (y .requests))
-    (decide-both (same (y .evicted + y .dropped + k) (y .admitted))
-    (decide-both (amount sizeMost (y .hits) (y .requests) (y .hitBytes) (y .bytes)) (amount costMost (y .hits) (y .requests) (y .hitCost) (y .cost)))))
+    decide-as (λ p. record { counts = p .0; gone = p .1 .0; cost = p .1 .1 }) (λ g. (g .counts, (g .gone, g .cost)))
+    (decide-both (counts y) (decide-both (same (y .evicted + y .dropped + k) (y .admitted)) (amount costMost (y .hits) (y .requests) (y .hitCost) (y .cost))))
+
+pub counted-decided : (a : Tally) → Counted a ⊎ (Counted a → ⊥)
+counted-decided a =
+    decide-as (λ p. record { few = p .0; counts = p .1 }) (λ g. (g .few, g .counts)) (decide-both (decide-le (a .requests) requestsMost) (counts (totalsOf a)))
 
 -- ---- the links and the queue
 

@@ -90,9 +90,11 @@ pub worked : Sound workedTally workedTables
 unfolding shelfOf slotOf sum
 worked = record {
   agreed = record {
-    outcomes = refl;
+    counts = record {
+      outcomes = refl;
+      bytes = record { hit-least = omega arith; hit-most = omega arith; hit-asked = omega arith; asked-least = omega arith; asked-most = omega arith };
+    };
     gone = refl;
-    bytes = record { hit-least = omega arith; hit-most = omega arith; hit-asked = omega arith; asked-least = omega arith; asked-most = omega arith };
     cost = record { hit-least = omega arith; hit-most = omega arith; hit-asked = omega arith; asked-least = omega arith; asked-most = omega arith };
   };
   few = omega arith;

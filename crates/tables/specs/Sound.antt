@@ -9,11 +9,20 @@ use Rattle.amounts.specs.Limits.{requestsMost, noPlace}
 use Rattle.amounts.specs.declared.settings.Settings.{Settings}
 use Rattle.queue.specs.Queue.{times, Ordered, Indexed}
 use Rattle.method.specs.Shelf.{bytes, files}
-use Rattle.method.specs.Totals.{Agreed}
+use Rattle.method.specs.Totals.{Counts, Agreed}
 use Rattle.method.specs.Promise.{SoundAt}
 use Rattle.tables.specs.Tables.{Tables}
 use Rattle.tables.specs.Tally.{storeOf, policyIn, totalsOf, stateOf}
 use Rattle.tables.specs.declared.tally.Tally.{Tally}
+
+-- document 01: at most 1,048,576 requests
+abbrev pub Few : Tally → Type 0
+Few a = a .requests ≤ requestsMost
+
+-- document 01: hits + admitted + passed = requests, with that limit, and bytes asked and hit bytes within their bounds: what a ratio asks of a tally (document 02, ticket 3)
+pub record Counted (a : Tally) : Type 0 where
+  pub few : Few a
+  pub counts : Counts (totalsOf a)
 
 -- file f has place p, and the place has the file
 pub record At (s : Settings) (t : Tables) (f p : ℕ) : Type 0 where
@@ -61,7 +70,7 @@ pub record Queued (s : Settings) (n : ℕ) (t : Tables) : Type 0 where
 pub record Sound (a : Tally) (t : Tables) : Type 0 where
   -- hits + admitted + passed = requests, evicted + dropped + files kept = admitted (document 02, ticket 2), and the totals against their bounds
   pub agreed : Agreed (a .«files_kept») (totalsOf a)
-  pub few : a .requests ≤ requestsMost
+  pub few : Few a
   pub linked : Linked (a .settings) t
   pub queued : Queued (a .settings) (a .«files_kept») t
   -- no entry lower than the one above it

@@ -39,8 +39,12 @@ module _ {vs₀ : List ℕ} {from : ℕ} {list₀ : List ℕ} where
   pub left-end : (at : ℕ) (list : List ℕ) → Left vs₀ from list₀ [] at list → Laid vs₀ from list₀ list at
   left-end at list h = record { placed = h .same; ends = omega (arith, h .ends) }
 
+-- stores from the front on lay a list over another, whatever its entries are
+pub stored : {A : Type 0} (vs list : List A) → length vs ≤ length list → sets list 0 vs ≡ over vs list
+stored vs list h = sets-eq vs list 0 (omega arith) ∙ ap (λ (k : ℕ). vs ++ drop k list) (zero-add (length vs))
+
 pub laid-over : (vs list list′ : List ℕ) (at : ℕ) → length vs ≤ length list → Laid vs 0 list list′ at → list′ ≡ over vs list
-laid-over vs list list′ at h p = p .placed ∙ sets-eq vs list 0 (omega arith) ∙ ap (λ (k : ℕ). vs ++ drop k list) (zero-add (length vs))
+laid-over vs list list′ at h p = p .placed ∙ stored vs list h
 
 -- one list of numbers after another
 module _ (a b : List ℕ) (at : ℕ) (list : List ℕ) where

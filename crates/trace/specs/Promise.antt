@@ -12,7 +12,7 @@ use Rattle.trace.specs.declared.answer.Answer.{Answer}
 use Rattle.trace.specs.declared.answer.FileRead.{FileRead}
 
 -- document 01, "Trace bytes": a list with s over its front; entries past the count aren't written
-abbrev pub over : List ℕ → List ℕ → List ℕ
+abbrev pub over : {A : Type 0} → List A → List A → List A
 over s d = s ++ drop (length s) d
 
 -- document 01, "Trace bytes": what goes to each of the three lists, one entry a request

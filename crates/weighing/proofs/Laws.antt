@@ -16,9 +16,10 @@ use Rattle.method.specs.Promise.{Once, Fine}
 use Rattle.tables.specs.Tables.{Tables, recordAt}
 use Rattle.tables.specs.Tally.{policyIn}
 use Rattle.tables.specs.declared.tally.Tally.{Tally}
-use Rattle.weighing.specs.Weighing.{Exact, Right, Lawful, Summed, Balanced}
+use Rattle.tables.specs.Exact.{Exact}
+use Rattle.weighing.specs.Weighing.{Right, Lawful, Summed, Balanced}
 use Rattle.weighing.specs.declared.sums.Sums.{Sums}
-use Rattle.weighing.proofs.Answers.{answer-yes, answer-test, answer-call, answer-as}
+use Rattle.tables.proofs.Answers.{answer-yes, answer-test, answer-call, answer-as}
 
 -- ---- a frequency is exactly 1 for policy 1
 

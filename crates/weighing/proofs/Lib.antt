@@ -1,6 +1,4 @@
--- The laws behind the weighing; `Answers` and `Shelving` are for the judge too.
-pub mod Answers
-pub mod Amounts
+-- The laws behind the weighing; `Shelving` is for the judge too.
 pub mod Laws
 pub mod Adding
 pub mod Shelving

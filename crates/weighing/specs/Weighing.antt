@@ -1,41 +1,22 @@
--- Whether totals, records and sums are within their bounds: the conditions of document 01, "Tables and the tally", on the tally and on each file's record. Assumes nothing.
+-- Whether records and sums are within their bounds: the conditions of document 01, "Tables and the tally", on each file's record and on all of them together. Assumes nothing.
 use mathlib.Core.Path.{_≡_}
 use mathlib.Core.Logic.{_⊎_}
-use mathlib.Core.Bool.{Bool, true, false}
+use mathlib.Core.Bool.{true}
 use mathlib.Core.List.{List}
 use Prim.Native.Nat.{ℕ, _+_, _*_, _≤_, _<_}
 use lib.ListN.{length, getD}
-use Rattle.amounts.specs.Limits.{sizeMost, requestsMost, catalogueMost, noPlace}
+use Rattle.amounts.specs.Limits.{requestsMost, catalogueMost, noPlace}
 use Rattle.amounts.specs.Worth.{Valued, worthMost}
 use Rattle.amounts.specs.Settings.{inRange}
 use Rattle.amounts.specs.declared.settings.Settings.{Settings}
 use Rattle.method.specs.Shelf.{Kept, Shelf, sum, bytes, files, product}
 use Rattle.method.specs.Method.{Policy}
-use Rattle.method.specs.Totals.{Amount, Agreed}
 use Rattle.method.specs.Promise.{Fine}
 use Rattle.tables.specs.Tables.{Tables, tables, Long, recordAt, shelfOf}
-use Rattle.tables.specs.Tally.{policyIn, totalsOf}
+use Rattle.tables.specs.Tally.{policyIn}
 use Rattle.tables.specs.Sound.{At}
 use Rattle.tables.specs.declared.tally.Tally.{Tally}
 use Rattle.weighing.specs.declared.sums.Sums.{Sums}
-
--- the answer is true exactly where P holds
-pub record Exact (P : Type 0) (answer : Bool) : Type 0 where
-  pub yes : answer ≡ true → P
-  pub no : answer ≡ false → P → ⊥
-
--- ---- The totals
-
--- document 01: hits + admitted + passed = requests, at most 1,048,576; with bytes asked and hit bytes
-pub record Counted (a : Tally) : Type 0 where
-  pub few : a .requests ≤ requestsMost
-  pub outcomes : a .hits + a .admitted + a .passed ≡ a .requests
-  pub bytes : Amount sizeMost (a .hits) (a .requests) (a .«hit_bytes» .0) (a .«bytes_asked» .0)
-
--- document 01: all that is asked of the totals, evicted + dropped + files kept = admitted (document 02, ticket 2) and the costs with the rest
-pub record Numbers (a : Tally) : Type 0 where
-  pub few : a .requests ≤ requestsMost
-  pub agreed : Agreed (a .«files_kept») (totalsOf a)
 
 -- ---- The files
 

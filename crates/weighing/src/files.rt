@@ -11,7 +11,8 @@ ghost use Rattle.amounts.specs.Limits.{requestsMost};
 ghost use Rattle.method.specs.Method.{policyOf};
 ghost use Rattle.method.specs.Promise.{Once};
 ghost use Rattle.tables.specs.Tables.{tables};
-ghost use Rattle.weighing.specs.Weighing.{Exact, Covered, Right, Lawful, AllLawful};
+ghost use Rattle.tables.specs.Exact.{Exact};
+ghost use Rattle.weighing.specs.Weighing.{Covered, Right, Lawful, AllLawful};
 
 // Whether a frequency is exactly 1 where the policy counts none.
 fn is_once(policy: Policy, freq: u32) -> bool

@@ -8,7 +8,8 @@ ghost use mathlib.Core.List.{[]};
 ghost use Prim.Native.Nat.{_≤_};
 ghost use Rattle.amounts.specs.Limits.{requestsMost};
 ghost use Rattle.tables.specs.Tables.{tables, shelfOf};
-ghost use Rattle.weighing.specs.Weighing.{Exact, Weighable, Balanced, Shelvable, Filed};
+ghost use Rattle.tables.specs.Exact.{Exact};
+ghost use Rattle.weighing.specs.Weighing.{Weighable, Balanced, Shelvable, Filed};
 
 // Whether the sums over the files that have a place are those of the tally and within their bounds.
 fn sums_agree(a: Tally, place: &[u16], size: &[u32], cost: &[u16], freq: &[u32]) -> bool

@@ -10,7 +10,6 @@ use Rattle.card.specs.Card.{Card, valueOf, cardOf}
 use Rattle.card.specs.declared.Refusal.{Refusal}
 use Rattle.card.proofs.Cases.{on-card}
 use Rattle.trace.specs.Promise.{over}
-use Rattle.trace.proofs.Laying.{laid-over}
 use Rattle.tables.specs.Start.{words}
 use Rattle.tables.specs.declared.tally.Tally.{Tally}
 use Rattle.words.specs.Words.{wordOf, answerWord, tallyIn}
@@ -31,12 +30,8 @@ pub value-in : (c : Card) → c .number < 256 → valueOf c < 72057594037927936 
 unfolding answerWord wordOf
 value-in c h k = omega arith
 
--- stores from the front on lay a list over another
-pub stored : (vs l : List ℕ) → length vs ≤ length l → sets l 0 vs ≡ over vs l
-stored vs l h = laid-over vs l (sets l 0 vs) (0 + length vs) h (record { placed = refl; ends = refl })
-
 -- an index below so many that a list is known to have stays inside it after stores
-pub inside : (n k : ℕ) (l vs : List ℕ) → k < n → n ≤ length l → k < length (sets l 0 vs)
+pub inside : {A : Type 0} (n k : ℕ) (l vs : List A) → k < n → n ≤ length l → k < length (sets l 0 vs)
 inside n k l vs h m = lt-length-sets l 0 vs (lt-of-lt-of-le h m)
 
 -- the words of a tally stand for it, whatever words follow: the next call finds the tally that the last one left

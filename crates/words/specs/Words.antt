@@ -22,6 +22,10 @@ tallyWords = 18
 abbrev pub settingsWords : ℕ
 settingsWords = 5
 
+-- docs/BOUNDARY.md: how many doubles the ratios have
+abbrev pub ratioDoubles : ℕ
+ratioDoubles = 2
+
 -- docs/BOUNDARY.md: settings are five numbers in document 01's order
 abbrev pub settingsFrom : ℕ → ℕ → ℕ → ℕ → ℕ → Settings
 settingsFrom unit policy capacity places catalogue =

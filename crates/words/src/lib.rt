@@ -1,6 +1,8 @@
-// Words at the boundary: an answer as one word, settings and tally as words.
+// Words at the boundary: an answer as one word, settings and tally as words, ratios as doubles.
+mod doubles;
 mod forms;
 
+pub use doubles::put_ratios;
 pub use forms::answer_word;
 pub use forms::put_settings;
 pub use forms::put_words;

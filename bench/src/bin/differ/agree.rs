@@ -1,9 +1,11 @@
 //! One call of the library beside the model's: the answer and every lent entry must agree.
 
 use std::fmt::Debug;
+use std::hint::black_box;
 use std::sync::atomic::{AtomicU64, Ordering};
 
 use bench::boundary;
+use bench::model::ratios::ratios_into;
 use bench::model::red_card::{Answer, Refusal};
 use bench::model::sheet::sheet_into;
 use bench::model::soundness::sound;
@@ -201,7 +203,7 @@ pub fn sheet(trace: &[u8], out: &mut [u8]) -> Agreement {
 pub fn squid_file(settings: &Settings, log: &[u8], out: &mut [u8]) -> Agreement {
     let mut expected = out.to_vec();
     let result = squid::squid_file(settings, log, &mut expected);
-    let given = framed(out, |out| boundary::squid_file(settings, log, out))?;
+    let given = framed(out, BYTE, |out| boundary::squid_file(settings, log, out))?;
     same_answer(given, result)?;
     same_list("out", out, &expected)?;
     Ok(given)
@@ -210,22 +212,43 @@ pub fn squid_file(settings: &Settings, log: &[u8], out: &mut [u8]) -> Agreement 
 pub fn squid_part(catalogue: u64, log: &[u8], out: &mut [u8]) -> Agreement {
     let mut expected = out.to_vec();
     let result = squid::squid_part(catalogue, log, &mut expected);
-    let given = framed(out, |out| boundary::squid_part(catalogue, log, out))?;
+    let given = framed(out, BYTE, |out| boundary::squid_part(catalogue, log, out))?;
     same_answer(given, result)?;
     same_list("out", out, &expected)?;
     Ok(given)
 }
 
-/// Lends the middle of a longer buffer; nothing before it and nothing behind it may change.
-fn framed(out: &mut [u8], call: impl FnOnce(&mut [u8]) -> Answer) -> Agreement {
-    const FRAME: [u8; 24] = [0xa5; 24];
-    let mut longer = [&FRAME, &*out, &FRAME].concat();
-    let (before, rest) = longer.split_at_mut(FRAME.len());
+/// The ratios bit for bit, and the tally's words as they were.
+pub fn ratios(tally: &[u64], list: &mut [f64]) -> Agreement {
+    let before = tally.to_vec();
+    let mut expected = list.to_vec();
+    let result = ratios_into(tally, &mut expected);
+    // A frame that is neither 0 nor a NaN is equal only where its bits are.
+    let given = framed(list, -7.5, |list| boundary::ratios(tally, list))?;
+    same_answer(given, result)?;
+    same_bits("ratios", list, &expected)?;
+    // The compiler may take a shared slice to be unchanged, so it is read anew.
+    same_list("tally", black_box(tally), &before)?;
+    Ok(given)
+}
+
+/// The byte that frames a buffer.
+const BYTE: u8 = 0xa5;
+
+/// Lends the middle of a longer list; nothing before it and nothing behind it may change.
+fn framed<T: Copy + PartialEq + Debug>(
+    out: &mut [T],
+    filler: T,
+    call: impl FnOnce(&mut [T]) -> Answer,
+) -> Agreement {
+    let frame = [filler; 24];
+    let mut longer = [&frame, &*out, &frame].concat();
+    let (before, rest) = longer.split_at_mut(frame.len());
     let (lent, behind) = rest.split_at_mut(out.len());
     let given = call(lent);
     out.copy_from_slice(lent);
-    same_list("bytes before out", before, &FRAME)?;
-    same_list("bytes behind out", behind, &FRAME)?;
+    same_list("entries before out", before, &frame)?;
+    same_list("entries behind out", behind, &frame)?;
     Ok(given)
 }
 
@@ -290,6 +313,15 @@ pub fn same_list<T: PartialEq + Debug>(
         same(&format!("{what} {index}"), given, expected)?;
     }
     Ok(())
+}
+
+/// Equal as numbers is not enough: a NaN is equal to nothing, and two zeros differ in their sign.
+pub fn same_bits(what: &str, given: &[f64], expected: &[f64]) -> Result<(), String> {
+    let [given, expected] = [given, expected].map(|list| {
+        let bits = list.iter().map(|entry| entry.to_bits());
+        bits.collect::<Vec<u64>>()
+    });
+    same_list(&format!("bits of {what}"), &given, &expected)
 }
 
 pub fn same<T: PartialEq + Debug>(what: &str, given: &T, expected: &T) -> Result<(), String> {

@@ -11,6 +11,7 @@ mod make;
 mod order;
 mod pieces;
 mod printed;
+mod ratios;
 mod recuts;
 mod runs;
 mod sheets;
@@ -31,8 +32,9 @@ type Verdict = Result<Vec<Answer>, String>;
 ///
 /// The numbers are those of the lists of documents 01 and 02 and of the boundary's orders of refusals that the kind is
 /// made for: 1 and 2 for a fresh start, 1, 2, 8, 7, 3, 4, 5 and 6 for carrying on, 1, 3, 4 and 6 for the reader, 1, 2,
-/// 4 and 6 for the writer, 9, 1, 2, 3 and 4 on a sheet, 1, 10 and 6 for a Squid log. A kind that misses one of them
-/// tests less than it says, and the run fails; so does one that sees fewer recuts than it is made for.
+/// 4 and 6 for the writer, 9, 1, 2, 3 and 4 on a sheet, 1, 10 and 6 for a Squid log, 2, 11, 7 and 6 for the ratios. A
+/// kind that misses one of them tests less than it says, and the run fails; so does one that sees fewer recuts than it is
+/// made for.
 struct Kind {
     name: &'static str,
     case: fn(&mut Random) -> Verdict,
@@ -66,7 +68,7 @@ const fn kind(
     }
 }
 
-const KINDS: [Kind; 35] = [
+const KINDS: [Kind; 39] = [
     kind("settings in and out of range", fresh::settings, &[0, 1]),
     kind("fresh start, tables too short", fresh::too_short, &[0, 2]),
     kind("fresh start over old contents, twins", fresh::twins, &[0]).recuts([100, 20, 0]),
@@ -126,13 +128,24 @@ const KINDS: [Kind; 35] = [
     ),
     kind("real Squid logs, damaged", squid::damaged, &[0, 10]),
     kind("long Squid logs", squid::long, &[0, 10]).fewer(u64::MAX),
+    kind("ratios of runs", ratios::of_runs, &[0, 11]).recuts([250, 35, 1]),
+    kind("ratios of any good tally", ratios::good, &[0]),
+    kind("ratios, damaged tallies", ratios::damaged, &[0, 7, 11]),
+    kind(
+        "ratios, order of refusals",
+        order::ratios,
+        &[0, 2, 6, 7, 11],
+    ),
 ];
 
-/// What the cases of a kind came to: calls by their number on the red card, 0 to 10, and recuts by their outcome.
+/// The numbers on the red card, 0 for done among them.
+const NUMBERS: usize = 12;
+
+/// What the cases of a kind came to: calls by their number on the red card, and recuts by their outcome.
 #[derive(Default)]
 struct Seen {
     cases: u64,
-    calls: [u64; 11],
+    calls: [u64; NUMBERS],
     recuts: [u64; 3],
 }
 
@@ -206,7 +219,7 @@ fn run_kind(kind: &Kind, number: u64, cases: u64, seed: u64) -> Result<Seen, Str
     // The name goes out first, so that a crash inside the library is seen where it happened.
     print!("{}: ", kind.name);
     let _ = std::io::stdout().flush();
-    let mut calls = [0; 11];
+    let mut calls = [0; NUMBERS];
     for case in 0..cases {
         let mut random = Random::of_case(seed, number, case);
         let answers = (kind.case)(&mut random)

@@ -11,6 +11,7 @@ use crate::agree::{self, Lent};
 use crate::fields::{all_requests, bytes_of, request_fault, setting_fault, setting_fields, Field};
 use crate::logs::{bad_line, good_lines, log_of, requests_of};
 use crate::make::Asking;
+use crate::ratios::{at_a_bound, good_tally, old_ratio};
 use crate::{make, Verdict};
 
 /// A fault of its own chance: the refusal, where the coin falls so.
@@ -289,4 +290,33 @@ pub fn squid(random: &mut Random) -> Verdict {
     let whole = agree::squid_file(&settings, &log, &mut out)?;
     agree::due(whole, first(&[outside, bad, room], needed))?;
     Ok(vec![whole, further])
+}
+
+pub fn ratios(random: &mut Random) -> Verdict {
+    let unsound = chance(random, Refusal::Unsound);
+    let mut tally = match unsound {
+        Some(_) => at_a_bound(random, 1),
+        None => good_tally(random),
+    };
+    // With the other counts left as they are, this is unsound as well.
+    let none = chance(random, Refusal::NoRequests);
+    if none.is_some() {
+        tally.requests = 0;
+    }
+    // What is missing of a short tally lies behind it in memory, but is not lent.
+    let words = tally.words();
+    let short = chance(random, Refusal::ShortTable);
+    let lent = match short {
+        Some(_) => random.pick(&[0, 9, TALLY_WORDS - 1]),
+        None => TALLY_WORDS,
+    };
+    let room = chance(random, Refusal::Room);
+    let length = match room {
+        Some(_) => random.index(2),
+        None => 2 + random.index(2),
+    };
+    let mut list = make::exact_list(random, length, old_ratio);
+    let given = agree::ratios(&words[..lent], &mut list)?;
+    agree::due(given, first(&[short, none, unsound, room], 0))?;
+    Ok(vec![given])
 }

@@ -14,10 +14,10 @@ use crate::runs::{carried, whole_and_in_parts};
 use crate::soundness::some_lent;
 use crate::{make, Verdict};
 
-const HIT: u32 = 1;
+pub const HIT: u32 = 1;
 const ADMIT: u32 = 2;
 const BIG: u32 = 3;
-const EVICT: u32 = 5;
+pub const EVICT: u32 = 5;
 const STALE: u32 = 6;
 
 fn event(kind: u32, file: u64) -> u32 {

@@ -155,7 +155,7 @@ fn some_place(random: &mut Random, lent: &Lent) -> usize {
 }
 
 /// Nudges an entry, or sets it to an end, to another entry or to anything.
-fn change_entry<T>(random: &mut Random, list: &mut [T], index: usize, most: T)
+pub fn change_entry<T>(random: &mut Random, list: &mut [T], index: usize, most: T)
 where
     T: Copy + Into<u64> + TryFrom<u64>,
 {

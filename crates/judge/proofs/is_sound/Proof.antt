@@ -8,8 +8,8 @@ use borrow.Author.Needs.{needs}
 use Rattle.amounts.specs.Limits.{placesMost}
 use Rattle.tables.specs.Tables.{Tables, tables}
 use Rattle.tables.proofs.Ranges.{bounded}
-use Rattle.weighing.specs.Weighing.{Numbers}
-use Rattle.weighing.proofs.Answers.{passed, failed}
+use Rattle.totals.specs.Totals.{Numbers}
+use Rattle.tables.proofs.Answers.{passed, failed}
 use Rattle.judge.proofs.Parts.{queued-part, index-all, used-requeued, spare-requeued, filed-requeued}
 use Rattle.judge.proofs.Verdicts.{sound-numbers, sound-few, sound-used, sound-filed, sound-own, sound-made, desk, unsound, judged, indexable, shelvable, stackable, readable, stamped}
 use Rattle.judge.proofs.is_sound.Statement.{statement}

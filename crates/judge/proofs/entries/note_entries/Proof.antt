@@ -7,7 +7,7 @@ use lib.ListN.{length, getD}
 use borrow.Author.Needs.{needs, scaled-fits}
 use Rattle.tables.specs.Tables.{Tables, tables}
 use Rattle.tables.specs.Sound.{Occupied}
-use Rattle.weighing.proofs.Answers.{passed, failed}
+use Rattle.tables.proofs.Answers.{passed, failed}
 use Rattle.judge.proofs.Parts.{occupied-as}
 use Rattle.judge.proofs.Entering.{Noting, noting-start, noting-vacant, noting-twice, noting-more, noting-done}
 use Rattle.judge.proofs.entries.note_entries.Statement.{statement}

@@ -4,7 +4,7 @@ use native.Mathlib.Omega.{arith}
 use lib.ListN.{getD}
 use borrow.Author.Tests.{eqb-true, eq-eqb}
 use borrow.Author.Needs.{needs}
-use Rattle.weighing.proofs.Answers.{answer-no, answer-test}
+use Rattle.tables.proofs.Answers.{answer-no, answer-test}
 use Rattle.judge.proofs.entries.occupied.Statement.{statement}
 use Rattle.judge.proofs.entries.occupied.Tie as tie
 

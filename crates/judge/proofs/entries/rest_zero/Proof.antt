@@ -5,7 +5,7 @@ use native.Mathlib.Omega.{arith}
 use lib.ListN.{length, getD}
 use borrow.Author.Count.{below-more}
 use borrow.Author.Needs.{needs, scaled-fits}
-use Rattle.weighing.proofs.Answers.{answer-no, answer-yes}
+use Rattle.tables.proofs.Answers.{answer-no, answer-yes}
 use Rattle.judge.proofs.entries.rest_zero.Statement.{statement}
 use Rattle.judge.proofs.entries.rest_zero.Tie as tie
 

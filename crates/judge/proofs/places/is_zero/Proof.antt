@@ -2,7 +2,7 @@
 use native.Mathlib.Omega.{arith}
 use borrow.Author.Tests.{eqb-true, eq-eqb}
 use borrow.Author.Needs.{needs}
-use Rattle.weighing.proofs.Answers.{answer-no, answer-test}
+use Rattle.tables.proofs.Answers.{answer-no, answer-test}
 use Rattle.judge.proofs.places.is_zero.Statement.{statement}
 use Rattle.judge.proofs.places.is_zero.Tie as tie
 

@@ -7,7 +7,7 @@ use native.Mathlib.Omega.{arith}
 use lib.ListN.{length}
 use borrow.Author.Needs.{needs}
 use Rattle.tables.specs.Tables.{tables}
-use Rattle.weighing.proofs.Answers.{passed, failed}
+use Rattle.tables.proofs.Answers.{passed, failed}
 use Rattle.judge.proofs.Parts.{occupied-as, one-covered, zero-as}
 use Rattle.judge.proofs.Stacking.{stacking-as, Stacking, stacking-start, stacking-done, stacking-lost, stacking-dirty, stacking-used, stacking-free, room}
 use Rattle.judge.proofs.places.stack_unused.Statement.{statement}

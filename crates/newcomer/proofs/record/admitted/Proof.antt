@@ -1,5 +1,6 @@
 -- `newcomer::record::admitted` meets its contract. Assumes nothing.
 use Prim.Native.Nat.{ℕ, _+_}
+use native.Mathlib.Omega.{arith}
 use borrow.Author.Needs.{needs}
 use Rattle.tables.specs.Tally.{totalsOf}
 use Rattle.tables.specs.declared.tally.Tally.{Tally}
@@ -40,7 +41,10 @@ sub-b : tie.Need-sub-b
 sub-b c = search needs
 
 add-b-2 : tie.Need-add-b-2
-add-b-2 c = search needs
+add-b-2 c =
+    let start : tie.Start = search in
+    let h = start .pre .countable in
+    omega (arith, h .few, h .agreed .gone, h .agreed .counts .outcomes)
 
 returns : tie.Need-returns
 returns c =

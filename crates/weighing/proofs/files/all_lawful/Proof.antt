@@ -6,7 +6,7 @@ use borrow.Author.Count.{below-more}
 use borrow.Author.Needs.{needs}
 use Rattle.tables.specs.Tables.{tables}
 use Rattle.weighing.specs.Weighing.{Lawful}
-use Rattle.weighing.proofs.Answers.{answer-no, answer-yes, passed, failed}
+use Rattle.tables.proofs.Answers.{answer-no, answer-yes, passed, failed}
 use Rattle.weighing.proofs.files.all_lawful.Statement.{statement}
 use Rattle.weighing.proofs.files.all_lawful.Tie as tie
 

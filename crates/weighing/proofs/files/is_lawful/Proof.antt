@@ -6,7 +6,7 @@ use borrow.Author.Needs.{needs}
 use lib.ListN.{getD}
 use Rattle.tables.specs.Tables.{Tables, tables}
 use Rattle.weighing.proofs.Laws.{lawful-place, lawful-file, lawful-as}
-use Rattle.weighing.proofs.Answers.{answer-no, answer-yes}
+use Rattle.tables.proofs.Answers.{answer-no, answer-yes}
 use Rattle.weighing.proofs.files.is_lawful.Statement.{statement}
 use Rattle.weighing.proofs.files.is_lawful.Tie as tie
 

@@ -6,7 +6,7 @@ use Rattle.amounts.specs.Limits.{sizeMost}
 use Rattle.amounts.specs.Worth.{Valued}
 use Rattle.amounts.proofs.Tests.{one-to, allowed, in-one-to}
 use Rattle.weighing.proofs.Laws.{right-last}
-use Rattle.weighing.proofs.Answers.{answer-no, answer-denied, passed, failed}
+use Rattle.tables.proofs.Answers.{answer-no, answer-denied, passed, failed}
 use Rattle.weighing.proofs.files.is_right.Statement.{statement}
 use Rattle.weighing.proofs.files.is_right.Tie as tie
 

@@ -2,7 +2,7 @@
 use mathlib.Core.Path.{refl}
 use borrow.Author.Needs.{needs}
 use Rattle.weighing.proofs.Shelving.{weighable, balanced-as}
-use Rattle.weighing.proofs.Answers.{answer-no, answer-as, passed, failed}
+use Rattle.tables.proofs.Answers.{answer-no, answer-as, passed, failed}
 use Rattle.weighing.proofs.shelf.shelf_agrees.Statement.{statement}
 use Rattle.weighing.proofs.shelf.shelf_agrees.Tie as tie
 

@@ -9,7 +9,7 @@ use Rattle.tables.specs.Tables.{shelfOf}
 use Rattle.weighing.specs.Weighing.{Summed}
 use Rattle.weighing.proofs.Adding.{weighed, summed-weighed}
 use Rattle.weighing.proofs.Laws.{balanced-last}
-use Rattle.weighing.proofs.Answers.{answer-no, answer-denied}
+use Rattle.tables.proofs.Answers.{answer-no, answer-denied}
 use Rattle.weighing.proofs.shelf.sums_agree.Statement.{statement}
 use Rattle.weighing.proofs.shelf.sums_agree.Tie as tie
 

@@ -3,7 +3,8 @@ use lib.Dec.{lit<}
 use lib.ListN.{take}
 use borrow.Author.Needs.{needs}
 use Rattle.trace.specs.Cards.{numbers}
-use Rattle.words.proofs.Wording.{inside, stored}
+use Rattle.trace.proofs.Laying.{stored}
+use Rattle.words.proofs.Wording.{inside}
 use Rattle.words.proofs.forms.put_settings.Statement.{statement}
 use Rattle.words.proofs.forms.put_settings.Tie as tie
 

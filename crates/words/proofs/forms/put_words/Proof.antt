@@ -2,8 +2,9 @@
 use lib.Dec.{lit<}
 use lib.ListN.{take}
 use lib.Seq.{length-sets}
+use Rattle.trace.proofs.Laying.{stored}
 use Rattle.tables.specs.Start.{words}
-use Rattle.words.proofs.Wording.{inside, stored}
+use Rattle.words.proofs.Wording.{inside}
 use Rattle.words.proofs.forms.put_words.Statement.{statement}
 use Rattle.words.proofs.forms.put_words.Tie as tie
 

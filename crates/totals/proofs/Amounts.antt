@@ -6,9 +6,9 @@ use lib.Dec.{leb}
 use borrow.Author.Tests.{leb-true, le-leb}
 use Rattle.amounts.specs.Limits.{totalOf}
 use Rattle.method.specs.Totals.{Amount}
+use Rattle.tables.specs.Exact.{Exact}
 use Rattle.tables.proofs.Lengths.{and-left, and-right}
-use Rattle.weighing.specs.Weighing.{Exact}
-use Rattle.weighing.proofs.Answers.{answer-call}
+use Rattle.tables.proofs.Answers.{answer-call}
 
 -- ---- a total that so many files can come to
 

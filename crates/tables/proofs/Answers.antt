@@ -3,7 +3,7 @@ use mathlib.Core.Path.{_≡_, sym, _∙_}
 use mathlib.Core.Bool.{Bool, true, false, not, true≢false}
 use borrow.Author.Tests.{not-true, not-false}
 use Rattle.amounts.proofs.Tests.{told, denied}
-use Rattle.weighing.specs.Weighing.{Exact}
+use Rattle.tables.specs.Exact.{Exact}
 
 pub answer-yes : {P : Type 0} → P → Exact P true
 answer-yes h = record { yes = λ _. h; no = λ e. absurd (true≢false e) }

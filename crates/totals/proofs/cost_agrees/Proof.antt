@@ -1,10 +1,10 @@
--- `weighing::totals::cost_agrees` meets its contract. Assumes nothing.
+-- `totals::cost_agrees` meets its contract. Assumes nothing.
 use borrow.Author.Needs.{needs}
 use Rattle.amounts.proofs.Tests.{allowed}
-use Rattle.weighing.proofs.Amounts.{amount-hit, amount-part, amount-last}
-use Rattle.weighing.proofs.Answers.{answer-denied}
-use Rattle.weighing.proofs.totals.cost_agrees.Statement.{statement}
-use Rattle.weighing.proofs.totals.cost_agrees.Tie as tie
+use Rattle.tables.proofs.Answers.{answer-denied}
+use Rattle.totals.proofs.Amounts.{amount-hit, amount-part, amount-last}
+use Rattle.totals.proofs.cost_agrees.Statement.{statement}
+use Rattle.totals.proofs.cost_agrees.Tie as tie
 
 is-total-of-requires : tie.Need-is-total-of-requires
 is-total-of-requires c κs = search needs

@@ -1,10 +1,10 @@
--- `weighing::totals::totals_agree` meets its contract. Assumes nothing.
+-- `totals::totals_agree` meets its contract. Assumes nothing.
 use native.Mathlib.Omega.{arith}
 use borrow.Author.Needs.{needs}
-use Rattle.weighing.specs.Weighing.{Counted}
-use Rattle.weighing.proofs.Answers.{answer-no, answer-as, passed, failed}
-use Rattle.weighing.proofs.totals.totals_agree.Statement.{statement}
-use Rattle.weighing.proofs.totals.totals_agree.Tie as tie
+use Rattle.tables.specs.Sound.{Counted}
+use Rattle.tables.proofs.Answers.{answer-no, answer-as, passed, failed}
+use Rattle.totals.proofs.totals_agree.Statement.{statement}
+use Rattle.totals.proofs.totals_agree.Tie as tie
 
 -- requests and bytes were found to agree
 counted : (c : tie.Else1) → Counted (c .before .before .args .a)
@@ -14,7 +14,7 @@ counts-agree-requires : tie.Need-counts-agree-requires
 counts-agree-requires c κs = search needs
 
 returns : tie.Need-returns
-returns c = answer-no (λ n. failed (c .before .counts-agree .ensures) (c .if1 .taken) (record { few = n .few; outcomes = n .agreed .outcomes; bytes = n .agreed .bytes }))
+returns c = answer-no (λ n. failed (c .before .counts-agree .ensures) (c .if1 .taken) (record { few = n .few; counts = n .agreed .counts }))
 
 returns-2 : tie.Need-returns-2
 returns-2 c = answer-no (λ n. omega (arith, n .agreed .gone))
@@ -29,13 +29,13 @@ cost-agrees-requires : tie.Need-cost-agrees-requires
 cost-agrees-requires c κs =
     let agreed : tie.Else1 = search in
     let h = counted agreed in
-    (omega (arith, h .few, h .outcomes), h .few)
+    (omega (arith, h .few, h .counts .outcomes), h .few)
 
 returns-5 : tie.Need-returns-5
 returns-5 c =
     let agreed : tie.Else1 = search in
     let h = counted agreed in
-    answer-as (c .cost-agrees .ensures) (λ w. record { few = h .few; agreed = record { outcomes = h .outcomes; gone = omega arith; bytes = h .bytes; cost = w } }) (λ n. n .agreed .cost)
+    answer-as (c .cost-agrees .ensures) (λ w. record { few = h .few; agreed = record { counts = h .counts; gone = omega arith; cost = w } }) (λ n. n .agreed .cost)
 
 pub totals-agree-spec : {M : Type 1} → statement M
 totals-agree-spec = tie.close (tie.spec counts-agree-requires returns returns-2 returns-3 returns-4 cost-agrees-requires returns-5)

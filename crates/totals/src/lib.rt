@@ -1,10 +1,12 @@
-// The totals of a tally: numbers alone, bounded before they are added or multiplied.
+// The totals of a tally, whatever words it holds: numbers alone, bounded before they are added or multiplied.
 use amounts::Requests;
 use tables::Tally;
 ghost use Prim.Native.Nat.{_≤_};
 ghost use Rattle.amounts.specs.Limits.{requestsMost, sizeMost, costMost};
 ghost use Rattle.method.specs.Totals.{Amount};
-ghost use Rattle.weighing.specs.Weighing.{Exact, Counted, Numbers};
+ghost use Rattle.tables.specs.Exact.{Exact};
+ghost use Rattle.tables.specs.Sound.{Counted};
+ghost use Rattle.totals.specs.Totals.{Numbers};
 
 // Whether bytes asked and hit bytes lie within their bounds.
 fn bytes_agree(a: Tally) -> bool
@@ -37,7 +39,7 @@ fn cost_agrees(a: Tally) -> bool
 }
 
 // Whether the outcomes make up the requests, not too many for a run, and their bytes can be so many.
-fn counts_agree(a: Tally) -> bool
+pub fn counts_agree(a: Tally) -> bool
     ensures { λ r. ⌜ Exact (Counted a) r ⌝ }
 {
     if !Requests(a.requests).in_range() {

@@ -1,13 +1,13 @@
--- `weighing::totals::counts_agree` meets its contract. Assumes nothing.
+-- `totals::counts_agree` meets its contract. Assumes nothing.
 use Prim.Native.Nat.{_≤_}
 use native.Mathlib.Omega.{arith}
 use borrow.Author.Needs.{needs}
 use borrow.Author.Tests.{leb-true, le-leb}
 use Rattle.amounts.specs.Limits.{requestsMost}
 use Rattle.amounts.proofs.Tests.{allowed}
-use Rattle.weighing.proofs.Answers.{answer-no, answer-denied, answer-as}
-use Rattle.weighing.proofs.totals.counts_agree.Statement.{statement}
-use Rattle.weighing.proofs.totals.counts_agree.Tie as tie
+use Rattle.tables.proofs.Answers.{answer-no, answer-denied, answer-as}
+use Rattle.totals.proofs.counts_agree.Statement.{statement}
+use Rattle.totals.proofs.counts_agree.Tie as tie
 
 -- the requests were found in range
 few : (c : tie.Else1) → c .before .before .args .a .requests ≤ requestsMost
@@ -50,7 +50,7 @@ bytes-agree-requires c κs =
 returns-6 : tie.Need-returns-6
 returns-6 c =
     let ranged : tie.Else1 = search in
-    answer-as (c .bytes-agree .ensures) (λ b. record { few = few ranged; outcomes = c .before .if5 .left; bytes = b }) (λ w. w .bytes)
+    answer-as (c .bytes-agree .ensures) (λ b. record { few = few ranged; counts = record { outcomes = c .before .if5 .left; bytes = b } }) (λ w. w .counts .bytes)
 
 pub counts-agree-spec : {M : Type 1} → statement M
 counts-agree-spec = tie.close (tie.spec in-range-requires returns returns-2 returns-3 returns-4 add-if5 add-if5-2 returns-5 bytes-agree-requires returns-6)

@@ -1,0 +1,49 @@
+-- Both ratios of a tally, or why there are none (document 02, ticket 3). Assumes nothing.
+use mathlib.Core.Path.{_≡_}
+use mathlib.Core.List.{List, [], _∷_}
+use Prim.Native.Nat.{ℕ, _≤_}
+use lib.Ieee.{Float}
+use Rattle.card.specs.Card.{Card, done, refused, cardOf}
+use Rattle.tables.specs.Sound.{Counted}
+use Rattle.tables.specs.declared.tally.Tally.{Tally}
+use Rattle.ratios.specs.Quotient.{quotient, Part}
+use Rattle.ratios.specs.declared.answer.Ratios.{Ratios}
+use Rattle.ratios.specs.declared.answer.Rated.{Rated}
+use Rattle.ratios.specs.declared.answer.Rated.the-variants.{Done, Refused}
+
+-- document 02, ticket 3: hits by requests and hit bytes by bytes asked
+abbrev pub ratiosOf : Tally → Ratios
+ratiosOf a = record { hits = quotient (a .hits) (a .requests); bytes = quotient (a .«hit_bytes» .0) (a .«bytes_asked» .0) }
+
+-- document 02, ticket 3: each a part of its whole, so that both can be divided
+pub record Rateable (a : Tally) : Type 0 where
+  pub hits : Part (a .hits) (a .requests)
+  pub bytes : Part (a .«hit_bytes» .0) (a .«bytes_asked» .0)
+
+-- document 01, "The forms we use": what a call for ratios gives back, the red card and the doubles that come with it
+pub record RatioCard : Type 0 where
+  pub card : Card
+  pub doubles : List Float
+
+-- document 02, ticket 3: the two numbers in their order
+abbrev pub doublesOf : Ratios → List Float
+doublesOf x = x .hits ∷ x .bytes ∷ []
+
+-- document 02, ticket 3: the record of two, done
+abbrev pub giving : Ratios → RatioCard
+giving x = record { card = done []; doubles = doublesOf x }
+
+-- document 02, ticket 3: a refusal, with no double
+abbrev pub refusing : Card → RatioCard
+refusing c = record { card = c; doubles = [] }
+
+-- document 01, "The forms we use": the number and values of each case of an answer
+abbrev pub ratioCard : Rated → RatioCard
+ratioCard (Done x) = giving x
+ratioCard (Refused r) = refusing (cardOf r)
+
+-- document 02, ticket 3: 11 when there are no requests, before any other test; then 7 when the tally breaks soundness on the sum to requests, bytes asked or hit bytes; else the record
+pub record Rates (a : Tally) (x : RatioCard) : Type 0 where
+  pub none : a .requests ≡ 0 → x ≡ refusing (refused 11 [])
+  pub unsound : 1 ≤ a .requests → (Counted a → ⊥) → x ≡ refusing (refused 7 [])
+  pub rated : 1 ≤ a .requests → Counted a → x ≡ giving (ratiosOf a)

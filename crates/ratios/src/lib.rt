@@ -1,0 +1,7 @@
+// Hit ratio and byte hit ratio of a tally, for the fitters: one record of two doubles (document 02, ticket 3).
+mod answer;
+mod division;
+
+pub use answer::Rated;
+pub use answer::Ratios;
+pub use answer::ratios_of;

@@ -1,0 +1,2 @@
+-- The laws behind the tests.
+pub mod Amounts
