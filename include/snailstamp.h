@@ -100,10 +100,11 @@ uint64_t snailstamp_squid_part(uint64_t catalogue,
                                const uint8_t *log, size_t log_length,
                                uint8_t *out, size_t out_length);
 
-/* The ratios of a tally: ratios[0] is hits by requests, ratios[1] hit bytes by bytes asked, each one division rounded once.
- * Both lie between 0 and 1, never a NaN: 1 where the counts are equal, 0 where nothing hit. 11 is for a tally without
- * requests; 7 for one whose hits, admitted and passed do not add up to its requests, or whose requests, bytes asked or
- * hit bytes are out of bounds. No other word is judged. Value when done: 0; entries past two are never written. */
+/* The ratios of a tally: ratios[0] is hits by requests, ratios[1] hit bytes by bytes asked, each one division rounded once,
+ * to nearest as C programs start out. Both lie between 0 and 1, never a NaN: 1 only where the counts are equal, 0 only
+ * where nothing hit. 11 is for a tally without requests; 7 for one whose hits, admitted and passed do not add up to its
+ * requests, or whose requests, bytes asked or hit bytes are out of bounds; no other word is judged. Value when done: 0;
+ * entries past two are never written. */
 uint64_t snailstamp_ratios(const uint64_t *tally, size_t tally_length, double *ratios, size_t ratios_length);
 
 #ifdef __cplusplus

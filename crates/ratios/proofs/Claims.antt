@@ -8,7 +8,7 @@ use lib.ListN.{getD}
 use lib.Ieee.{Float, le, eq}
 use Rattle.card.specs.Card.{refused}
 use Rattle.tables.specs.declared.tally.Tally.{Tally}
-use Rattle.ratios.specs.Quotient.{double, quotient, Part, Divided}
+use Rattle.ratios.specs.Quotient.{double, quotient, Part}
 use Rattle.ratios.specs.Ratios.{ratiosOf, Rateable, RatioCard, giving, refusing, Rates}
 use Rattle.ratios.specs.Fair.{Fair, Relied, Rising}
 use Rattle.ratios.specs.declared.answer.Ratios.{Ratios}

@@ -1,8 +1,8 @@
 -- One division of two counts that are doubles exactly is the counts' own fraction, rounded once. Assumes nothing.
 use mathlib.Core.Path.{_≡_, refl, sym, ap, _∙_}
-use mathlib.Core.Bool.{Bool, true, false, not, cond, true≢false}
+use mathlib.Core.Bool.{true, false, not, cond, true≢false}
 use Prim.Native.Nat.{ℕ, _*_, _^_, _≤_, _<_}
-use native.Mathlib.Nat.{mul-one, mul-comm, mul-pos, mul-mul-mul-comm, lt-irrefl}
+use native.Mathlib.Nat.{mul-one, mul-comm, mul-pos, mul-mul-mul-comm}
 use native.Mathlib.Omega.{arith}
 use lib.IntN.{pos}
 use lib.Dec.{T, eqb, eqb→eq, ltb→lt, le→leb, not-T, lit<}

@@ -3,9 +3,9 @@ use mathlib.Core.Path.{_≡_, refl, sym, _∙_, subst}
 use mathlib.Core.Logic.{_⊎_, inl, inr}
 use mathlib.Core.Bool.{Bool, true, false, not, _&&_, _||_}
 use Prim.Native.Nat.{ℕ, _+_, _*_, _≤_, _<_}
-use native.Mathlib.Nat.{mul-one, one-mul, zero-mul, mul-pos, mul-le-mul-right, eq-or-lt-of-le, eq-zero-or-pos, le-of-lt, le-of-eq}
+use native.Mathlib.Nat.{mul-one, one-mul, zero-mul, mul-le-mul-right, eq-or-lt-of-le, eq-zero-or-pos, le-of-lt, le-of-eq}
 use native.Mathlib.Omega.{arith}
-use lib.IntN.{ℤ, pos, negsuc}
+use lib.IntN.{pos, negsuc}
 use lib.Dec.{T, ltb, eqb, ltb→lt, lt→ltb, eqb→eq, lit<}
 use lib.Ieee.{Float, nan, inf, fin, binary64, up, down, round, ofInt, lt, le, eq, isNan}
 use lib.Ieee.Fits.{and-l, and-r, down-pos}
@@ -20,14 +20,6 @@ zeroF = fin false 0 (pos 0)
 abbrev pub oneF : Float
 oneF = fin false 1 (pos 0)
 
-pub double-zero : double 0 ≡ zeroF
-unfolding ofInt round
-double-zero = refl
-
-pub double-one : double 1 ≡ oneF
-unfolding ofInt round
-double-one = refl
-
 abbrev leastF : Float
 leastF = fin false 1 (negsuc 52)
 
@@ -41,6 +33,14 @@ at-one = refl
 at-zero : round binary64 false 0 1 ≡ zeroF
 unfolding round
 at-zero = refl
+
+pub double-zero : double 0 ≡ zeroF
+unfolding ofInt
+double-zero = at-zero
+
+pub double-one : double 1 ≡ oneF
+unfolding ofInt
+double-one = at-one
 
 at-least : round binary64 false 1 9007199254740992 ≡ leastF
 unfolding round

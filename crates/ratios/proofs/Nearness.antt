@@ -3,7 +3,8 @@ use mathlib.Core.Path.{_≡_, refl, sym, ap, _∙_, subst}
 use mathlib.Core.Logic.{inl, inr}
 use mathlib.Core.Bool.{not, false}
 use Prim.Native.Nat.{ℕ, suc, _+_, _-_, _*_, _/_, _%_, _^_, _≤_, _<_, compare, Ordering, Ordering·lt, Ordering·eq, Ordering·gt}
-use native.Mathlib.Nat.{le-trans, le-of-eq, mul-comm, mul-assoc, mul-left-comm, mul-right-comm, mul-pos, mul-le-mul-left, mul-le-mul-right, le-of-mul-le-mul-right, add-mul, suc-mul, mod-lt, eq-or-lt-of-le, div-add-mod', div-lt-iff-lt-mul, mul-lt-mul-of-pos-right, lt-of-lt-of-le}
+use native.Mathlib.Nat.{le-trans, le-of-eq, lt-of-lt-of-le, eq-or-lt-of-le, mod-lt, div-add-mod', div-lt-iff-lt-mul}
+use native.Mathlib.Nat.{mul-comm, mul-assoc, mul-left-comm, mul-right-comm, mul-pos, mul-le-mul-left, mul-le-mul-right, mul-lt-mul-of-pos-right, le-of-mul-le-mul-right, add-mul, suc-mul}
 use native.Mathlib.Omega.{arith}
 use lib.Dec.{T, isLe, isEq, eqb, leb→le, nleb→lt, eqb→eq, eqb-refl}
 use lib.Arith.{lt-of-le-ne}
@@ -13,7 +14,7 @@ use lib.Ieee.Digits.{size-le}
 use lib.Ieee.Exact.{HasValue}
 use lib.Ieee.Nearest.{closest}
 use lib.Ieee.Order.{drop}
-use lib.Ieee.Scale.{grid, round-val, round-under}
+use lib.Ieee.Scale.{round-val, round-under}
 use lib.Ieee.Positive.{num, den, value→cross}
 use Rattle.ratios.specs.Quotient.{quotient, Part}
 use Rattle.ratios.specs.Fair.{Close, nearness}
@@ -125,6 +126,9 @@ at-one n = record { over = omega arith; under = omega arith }
 pub near : (a n : ℕ) → Part a n → Close nearness (num (quotient a n)) (den (quotient a n)) a n
 near a n p =
     elim (eq-or-lt-of-le (p .within)) [
-      | inl e ↦ subst (λ (z : ℕ). Close nearness (num (quotient z n)) (den (quotient z n)) z n) (sym e) (subst (λ (r : Float). Close nearness (num r) (den r) n n) (sym (all-hit n (p .some))) (at-one n))
+      | inl e ↦ subst (λ (z : ℕ). Close nearness (num (quotient z n)) (den (quotient z n)) z n) (sym e) near-one
       | inr l ↦ near-below a n l
     ]
+  where
+    near-one : Close nearness (num (quotient n n)) (den (quotient n n)) n n
+    near-one = subst (λ (r : Float). Close nearness (num r) (den r) n n) (sym (all-hit n (p .some))) (at-one n)

@@ -1,21 +1,18 @@
 -- The answer that is due to a tally: the ways to it, and that it is the one answer. Assumes nothing.
 use mathlib.Core.Path.{_≡_, refl, ap, sym, _∙_}
-use mathlib.Core.Logic.{_⊎_, inl, inr, ⊎-elim}
-use mathlib.Core.List.{[]}
+use mathlib.Core.Logic.{⊎-elim}
 use Prim.Native.Nat.{ℕ, _≤_}
 use native.Mathlib.Omega.{arith}
 use lib.Ieee.{Float}
 use Rattle.amounts.proofs.Tests.{same}
-use Rattle.card.specs.Card.{refused}
 use Rattle.card.specs.declared.Refusal.the-variants.{NoRequests, Unsound}
 use Rattle.tables.specs.Tables.{Tables}
 use Rattle.tables.specs.Sound.{Counted, Sound}
 use Rattle.tables.specs.declared.tally.Tally.{Tally}
 use Rattle.tables.proofs.SoundDecided.{counted-decided}
 use Rattle.ratios.specs.Quotient.{quotient, Divided}
-use Rattle.ratios.specs.Ratios.{ratiosOf, Rateable, RatioCard, giving, refusing, ratioCard, Rates}
+use Rattle.ratios.specs.Ratios.{ratiosOf, Rateable, RatioCard, giving, ratioCard, Rates}
 use Rattle.ratios.specs.declared.answer.Ratios.{Ratios}
-use Rattle.ratios.specs.declared.answer.Rated.{Rated}
 use Rattle.ratios.specs.declared.answer.Rated.the-variants.{Done, Refused}
 
 some : {n : ℕ} → (n ≡ 0 → ⊥) → 1 ≤ n

@@ -1,7 +1,7 @@
 -- Both ratios of a tally, or why there are none (document 02, ticket 3). Assumes nothing.
 use mathlib.Core.Path.{_≡_}
 use mathlib.Core.List.{List, [], _∷_}
-use Prim.Native.Nat.{ℕ, _≤_}
+use Prim.Native.Nat.{_≤_}
 use lib.Ieee.{Float}
 use Rattle.card.specs.Card.{Card, done, refused, cardOf}
 use Rattle.tables.specs.Sound.{Counted}
