@@ -32,7 +32,7 @@ use Rattle.tables.proofs.Lists.{length-filled}
 use Rattle.tables.proofs.Ranges.{bounded}
 use Rattle.tables.proofs.Shelves.{fresh-shelf}
 use Rattle.tables.proofs.Twins.{fresh-done, freshly-sound}
-use Rattle.replay.specs.Parts.{runFrom, tallyOf, eventsOf}
+use Rattle.parts.specs.Parts.{runFrom, tallyOf, eventsOf}
 use Rattle.refusing.specs.Judging.{fittingRead, fitting, settled}
 use Rattle.replay.specs.Carrying.{Runs, Answers, Judges, Carries}
 use Rattle.replay.specs.declared.carry.Carried.{Carried}

@@ -13,7 +13,7 @@ use Rattle.method.specs.Events.{events}
 use Rattle.trace.specs.Reading.{Read, good, stop, readOf, Opened, opened, shut, settingsOf}
 use Rattle.tables.specs.Tally.{storeOf, policyIn, freshTally}
 use Rattle.tables.specs.declared.tally.Tally.{Tally}
-use Rattle.replay.specs.Parts.{tallyOf}
+use Rattle.parts.specs.Parts.{tallyOf}
 use Rattle.lines.specs.Lines.{refusedLine, page}
 
 -- ---- Limits

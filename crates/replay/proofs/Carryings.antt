@@ -22,10 +22,10 @@ use Rattle.refusing.specs.Judging.{Judgeable, fitting, settled, Orderly}
 use Rattle.refusing.specs.declared.settings.Settled.{Settled}
 use Rattle.refusing.specs.declared.settings.Settled.the-variants.{Fine}
 use Rattle.refusing.proofs.Rooms.{fits, settled-fine}
-use Rattle.replay.specs.Parts.{Ready, PartServed}
+use Rattle.parts.specs.Parts.{Ready, PartServed}
 use Rattle.replay.specs.Carrying.{Runs, Answers, Judges, Settles, Carries}
 use Rattle.replay.specs.declared.carry.Carried.{Carried}
-use Rattle.replay.specs.declared.part.Ended.{Ended}
+use Rattle.parts.specs.declared.Ended.{Ended}
 
 -- ---- what is due is given
 

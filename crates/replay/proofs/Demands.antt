@@ -19,7 +19,7 @@ use Rattle.tables.specs.Tally.{storeOf, policyIn, totalsOf, freshTally}
 use Rattle.tables.proofs.Lengths.{long-of}
 use Rattle.tables.proofs.Shelves.{fresh-shelf}
 use Rattle.tables.proofs.Twins.{fresh-done, freshly-sound}
-use Rattle.replay.specs.Parts.{runFrom}
+use Rattle.parts.specs.Parts.{runFrom}
 use Rattle.replay.specs.Demand.{soFar, Demands}
 use Rattle.replay.proofs.OneAnswer.{fresh-long}
 use Rattle.replay.proofs.InParts.{at-once-state, in-parts}

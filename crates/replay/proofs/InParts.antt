@@ -31,13 +31,13 @@ use Rattle.tables.proofs.Ranges.{bounded}
 use Rattle.counting.specs.Counting.{tallied}
 use Rattle.serving.specs.Serving.{beyondOf}
 use Rattle.refusing.specs.Judging.{requestsIn}
-use Rattle.replay.specs.Parts.{runFrom, tallyOf, eventsOf}
+use Rattle.parts.specs.Parts.{runFrom, tallyOf, eventsOf}
 use Rattle.replay.specs.Carrying.{Runs, Answers, Carries}
 use Rattle.replay.specs.Demand.{Goes, here, on, AtOnce}
 use Rattle.replay.specs.declared.carry.Carried.{Carried}
 use Rattle.replay.proofs.Cases.{dueHere, answers, sure}
 use Rattle.replay.proofs.OneAnswer.{one-shelf}
-use Rattle.replay.proofs.Walking.{good-one, stands}
+use Rattle.parts.proofs.Walking.{good-one, stands}
 
 -- ---- a call that is done
 

@@ -1,5 +1,4 @@
 -- The laws of this room.
-pub mod Walking
 pub mod Carryings
 pub mod Cases
 pub mod OneAnswer

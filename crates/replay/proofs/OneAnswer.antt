@@ -28,7 +28,7 @@ use Rattle.tables.proofs.Renamings.{renamed}
 use Rattle.tables.proofs.Shelves.{fresh-shelf}
 use Rattle.tables.proofs.Twins.{fresh-done, freshly-sound, twins}
 use Rattle.refusing.specs.Judging.{requestsIn, fitting, settled}
-use Rattle.replay.specs.Parts.{runFrom, tallyOf, eventsOf}
+use Rattle.parts.specs.Parts.{runFrom, tallyOf, eventsOf}
 use Rattle.replay.specs.Carrying.{Runs, Answers, Carries}
 use Rattle.replay.specs.Agreeing.{Left, Same, Alike}
 use Rattle.replay.specs.declared.carry.Carried.{Carried}

@@ -18,7 +18,7 @@ use Rattle.serving.specs.Serving.{beyondOf}
 use Rattle.refusing.specs.Judging.{requestsIn, fitting, settled}
 use Rattle.refusing.specs.declared.settings.Settled.{Settled}
 use Rattle.refusing.specs.declared.settings.Settled.the-variants as verdict
-use Rattle.replay.specs.Parts.{runFrom, tallyOf, eventsOf}
+use Rattle.parts.specs.Parts.{runFrom, tallyOf, eventsOf}
 use Rattle.replay.specs.declared.carry.Carried.{Carried}
 
 -- document 01, "Order": a refusal is decided before anything is written

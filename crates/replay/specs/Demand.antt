@@ -21,7 +21,7 @@ use Rattle.tables.specs.Start.{long, Freshly}
 use Rattle.tables.specs.declared.start.Started.{Started}
 use Rattle.tables.specs.declared.tally.Tally.{Tally}
 use Rattle.serving.specs.Serving.{beyondOf}
-use Rattle.replay.specs.Parts.{runFrom, tallyOf, eventsOf}
+use Rattle.parts.specs.Parts.{runFrom, tallyOf, eventsOf}
 use Rattle.replay.specs.Carrying.{Carries}
 use Rattle.replay.specs.declared.carry.Carried.{Carried}
 

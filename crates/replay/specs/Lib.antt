@@ -1,5 +1,4 @@
 -- What the contracts cite.
-pub mod Parts
 pub mod Carrying
 pub mod Agreeing
 pub mod Demand

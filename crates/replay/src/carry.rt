@@ -1,9 +1,9 @@
 // A run carried on: everything is judged once, before anything is written; then the part is served.
-use crate::part::serve_part;
 use amounts::Places;
 use amounts::Unit;
 use card::Refusal;
 use judge::is_sound;
+use parts::serve_part;
 use refusing::Settled;
 use refusing::judge_settings;
 use refusing::room_for;

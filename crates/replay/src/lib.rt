@@ -1,6 +1,5 @@
 // A run carried on over a further part of its trace.
 mod carry;
-mod part;
 
 pub use carry::Carried;
 pub use carry::carry_on;

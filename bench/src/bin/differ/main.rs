@@ -155,7 +155,8 @@ const PRINTED: Kind = kind(
     printed::all,
     &[0, 1, 2, 3, 4, 9],
 )
-.recuts([50, 5, 0]);
+.recuts([50, 5, 0])
+.fewer(4);
 
 const DEFAULT_CASES: u64 = 400;
 const DEFAULT_SEED: u64 = 7;

@@ -7,7 +7,7 @@ use shelving::wide32;
 use tables::Tally;
 ghost use Rattle.tables.specs.Tables.{tables};
 ghost use Rattle.refusing.specs.Judging.{requestsIn};
-ghost use Rattle.replay.specs.Parts.{Ready, PartServed};
+ghost use Rattle.parts.specs.Parts.{Ready, PartServed};
 
 // The tally after a part, and how many events it wrote.
 pub struct Ended {
@@ -16,7 +16,7 @@ pub struct Ended {
 }
 
 // Serves the requests of a part, in order.
-pub(crate) fn serve_part(
+pub fn serve_part(
     a: Tally,
     part: &[u8],
     count: usize,

@@ -17,7 +17,7 @@ use Rattle.tables.specs.declared.tally.Tally.{Tally}
 use Rattle.counting.specs.Counting.{tallied}
 use Rattle.serving.specs.Serving.{Running, beyondOf}
 use Rattle.refusing.specs.Judging.{requestsIn}
-use Rattle.replay.specs.declared.part.Ended.{Ended}
+use Rattle.parts.specs.declared.Ended.{Ended}
 
 -- document 01, "The run": the method's run over the requests qs, from the state that tally and tables stand for
 abbrev pub runFrom : Tally → Tables → List Request → Run State

@@ -30,8 +30,8 @@ use Rattle.tables.proofs.Shelves.{shelf-length}
 use Rattle.counting.specs.Counting.{tallied, after}
 use Rattle.serving.specs.Serving.{Running, Servable, Stepped, asked, beyondOf}
 use Rattle.refusing.specs.Judging.{requestsIn}
-use Rattle.replay.specs.Parts.{runFrom, eventsOf, Ready, PartServed}
-use Rattle.replay.specs.declared.part.Ended.{Ended}
+use Rattle.parts.specs.Parts.{runFrom, eventsOf, Ready, PartServed}
+use Rattle.parts.specs.declared.Ended.{Ended}
 use Rattle.serving.specs.declared.step.Step.{Step}
 use Rattle.serving.proofs.Runnings.{next-state}
 use Rattle.serving.proofs.Writing.{sets-append}

@@ -1,0 +1,2 @@
+-- The laws of this room.
+pub mod Walking
