@@ -1,12 +1,42 @@
-//! The ten functions of the archive, each behind a safe function over slices.
+//! The ten functions of an archive, each behind a safe function over slices.
 
 use crate::model::red_card::Answer;
 use crate::model::tables::Tables;
 use crate::model::tally::Settings;
 use crate::model::trace::Lists;
 
-extern "C" {
-    fn snailstamp_fresh(
+/// Declares the functions of the library's archive and, for `beside`, of an earlier commit's: `snailstamp_*`, `before_*`.
+macro_rules! archive {
+    ($(fn $name:ident($($argument:ident: $kind:ty),* $(,)?) -> u64;)*) => {
+        /// The functions of one archive.
+        pub struct Library {
+            $($name: unsafe extern "C" fn($($kind),*) -> u64,)*
+        }
+
+        mod now {
+            extern "C" {
+                $(#[link_name = concat!("snailstamp_", stringify!($name))]
+                pub fn $name($($argument: $kind),*) -> u64;)*
+            }
+        }
+
+        pub const NOW: Library = Library { $($name: now::$name,)* };
+
+        #[cfg(feature = "beside")]
+        mod before {
+            extern "C" {
+                $(#[link_name = concat!("before_", stringify!($name))]
+                pub fn $name($($argument: $kind),*) -> u64;)*
+            }
+        }
+
+        #[cfg(feature = "beside")]
+        pub const BEFORE: Library = Library { $($name: before::$name,)* };
+    };
+}
+
+archive! {
+    fn fresh(
         unit: u64,
         policy: u64,
         capacity: u64,
@@ -32,7 +62,7 @@ extern "C" {
         queue_length: usize,
     ) -> u64;
 
-    fn snailstamp_carry_on(
+    fn carry_on(
         unit: u64,
         tally: *mut u64,
         tally_length: usize,
@@ -58,7 +88,7 @@ extern "C" {
         events_length: usize,
     ) -> u64;
 
-    fn snailstamp_read_file(
+    fn read_file(
         trace: *const u8,
         trace_length: usize,
         settings: *mut u64,
@@ -71,7 +101,7 @@ extern "C" {
         costs_length: usize,
     ) -> u64;
 
-    fn snailstamp_read_part(
+    fn read_part(
         catalogue: u64,
         part: *const u8,
         part_length: usize,
@@ -83,7 +113,7 @@ extern "C" {
         costs_length: usize,
     ) -> u64;
 
-    fn snailstamp_write_file(
+    fn write_file(
         unit: u64,
         policy: u64,
         capacity: u64,
@@ -99,7 +129,7 @@ extern "C" {
         out_length: usize,
     ) -> u64;
 
-    fn snailstamp_write_part(
+    fn write_part(
         catalogue: u64,
         files: *const u16,
         files_length: usize,
@@ -111,14 +141,14 @@ extern "C" {
         out_length: usize,
     ) -> u64;
 
-    fn snailstamp_sheet(
+    fn sheet(
         trace: *const u8,
         trace_length: usize,
         out: *mut u8,
         out_length: usize,
     ) -> u64;
 
-    fn snailstamp_squid_file(
+    fn squid_file(
         unit: u64,
         policy: u64,
         capacity: u64,
@@ -130,7 +160,7 @@ extern "C" {
         out_length: usize,
     ) -> u64;
 
-    fn snailstamp_squid_part(
+    fn squid_part(
         catalogue: u64,
         log: *const u8,
         log_length: usize,
@@ -138,7 +168,7 @@ extern "C" {
         out_length: usize,
     ) -> u64;
 
-    fn snailstamp_ratios(
+    fn ratios(
         tally: *const u64,
         tally_length: usize,
         ratios: *mut f64,
@@ -198,189 +228,194 @@ fn decoded(word: u64) -> Answer {
     }
 }
 
-pub fn fresh(settings: &Settings, tally: &mut [u64], tables: LentTables) -> Answer {
-    // Safe for each function below: every pointer comes with the length of its own slice,
-    // and exclusive slices cannot overlap.
-    decoded(unsafe {
-        snailstamp_fresh(
-            settings.unit,
-            settings.policy,
-            settings.capacity,
-            settings.places,
-            settings.catalogue,
-            tally.as_mut_ptr(),
-            tally.len(),
-            tables.place.as_mut_ptr(),
-            tables.place.len(),
-            tables.file.as_mut_ptr(),
-            tables.file.len(),
-            tables.size.as_mut_ptr(),
-            tables.size.len(),
-            tables.cost.as_mut_ptr(),
-            tables.cost.len(),
-            tables.freq.as_mut_ptr(),
-            tables.freq.len(),
-            tables.key.as_mut_ptr(),
-            tables.key.len(),
-            tables.stamp.as_mut_ptr(),
-            tables.stamp.len(),
-            tables.queue.as_mut_ptr(),
-            tables.queue.len(),
-        )
-    })
-}
+impl Library {
+    pub fn fresh(&self, settings: &Settings, tally: &mut [u64], tables: LentTables) -> Answer {
+        // Safe for each function below: every pointer comes with the length of its own slice,
+        // and exclusive slices cannot overlap.
+        decoded(unsafe {
+            (self.fresh)(
+                settings.unit,
+                settings.policy,
+                settings.capacity,
+                settings.places,
+                settings.catalogue,
+                tally.as_mut_ptr(),
+                tally.len(),
+                tables.place.as_mut_ptr(),
+                tables.place.len(),
+                tables.file.as_mut_ptr(),
+                tables.file.len(),
+                tables.size.as_mut_ptr(),
+                tables.size.len(),
+                tables.cost.as_mut_ptr(),
+                tables.cost.len(),
+                tables.freq.as_mut_ptr(),
+                tables.freq.len(),
+                tables.key.as_mut_ptr(),
+                tables.key.len(),
+                tables.stamp.as_mut_ptr(),
+                tables.stamp.len(),
+                tables.queue.as_mut_ptr(),
+                tables.queue.len(),
+            )
+        })
+    }
 
-pub fn carry_on(
-    unit: u64,
-    tally: &mut [u64],
-    tables: LentTables,
-    part: &[u8],
-    events: &mut [u32],
-) -> Answer {
-    decoded(unsafe {
-        snailstamp_carry_on(
-            unit,
-            tally.as_mut_ptr(),
-            tally.len(),
-            tables.place.as_mut_ptr(),
-            tables.place.len(),
-            tables.file.as_mut_ptr(),
-            tables.file.len(),
-            tables.size.as_mut_ptr(),
-            tables.size.len(),
-            tables.cost.as_mut_ptr(),
-            tables.cost.len(),
-            tables.freq.as_mut_ptr(),
-            tables.freq.len(),
-            tables.key.as_mut_ptr(),
-            tables.key.len(),
-            tables.stamp.as_mut_ptr(),
-            tables.stamp.len(),
-            tables.queue.as_mut_ptr(),
-            tables.queue.len(),
-            part.as_ptr(),
-            part.len(),
-            events.as_mut_ptr(),
-            events.len(),
-        )
-    })
-}
+    pub fn carry_on(
+        &self,
+        unit: u64,
+        tally: &mut [u64],
+        tables: LentTables,
+        part: &[u8],
+        events: &mut [u32],
+    ) -> Answer {
+        decoded(unsafe {
+            (self.carry_on)(
+                unit,
+                tally.as_mut_ptr(),
+                tally.len(),
+                tables.place.as_mut_ptr(),
+                tables.place.len(),
+                tables.file.as_mut_ptr(),
+                tables.file.len(),
+                tables.size.as_mut_ptr(),
+                tables.size.len(),
+                tables.cost.as_mut_ptr(),
+                tables.cost.len(),
+                tables.freq.as_mut_ptr(),
+                tables.freq.len(),
+                tables.key.as_mut_ptr(),
+                tables.key.len(),
+                tables.stamp.as_mut_ptr(),
+                tables.stamp.len(),
+                tables.queue.as_mut_ptr(),
+                tables.queue.len(),
+                part.as_ptr(),
+                part.len(),
+                events.as_mut_ptr(),
+                events.len(),
+            )
+        })
+    }
 
-pub fn read_file(trace: &[u8], settings: &mut [u64], lists: LentLists) -> Answer {
-    decoded(unsafe {
-        snailstamp_read_file(
-            trace.as_ptr(),
-            trace.len(),
-            settings.as_mut_ptr(),
-            settings.len(),
-            lists.files.as_mut_ptr(),
-            lists.files.len(),
-            lists.sizes.as_mut_ptr(),
-            lists.sizes.len(),
-            lists.costs.as_mut_ptr(),
-            lists.costs.len(),
-        )
-    })
-}
+    pub fn read_file(&self, trace: &[u8], settings: &mut [u64], lists: LentLists) -> Answer {
+        decoded(unsafe {
+            (self.read_file)(
+                trace.as_ptr(),
+                trace.len(),
+                settings.as_mut_ptr(),
+                settings.len(),
+                lists.files.as_mut_ptr(),
+                lists.files.len(),
+                lists.sizes.as_mut_ptr(),
+                lists.sizes.len(),
+                lists.costs.as_mut_ptr(),
+                lists.costs.len(),
+            )
+        })
+    }
 
-pub fn read_part(catalogue: u64, part: &[u8], lists: LentLists) -> Answer {
-    decoded(unsafe {
-        snailstamp_read_part(
-            catalogue,
-            part.as_ptr(),
-            part.len(),
-            lists.files.as_mut_ptr(),
-            lists.files.len(),
-            lists.sizes.as_mut_ptr(),
-            lists.sizes.len(),
-            lists.costs.as_mut_ptr(),
-            lists.costs.len(),
-        )
-    })
-}
+    pub fn read_part(&self, catalogue: u64, part: &[u8], lists: LentLists) -> Answer {
+        decoded(unsafe {
+            (self.read_part)(
+                catalogue,
+                part.as_ptr(),
+                part.len(),
+                lists.files.as_mut_ptr(),
+                lists.files.len(),
+                lists.sizes.as_mut_ptr(),
+                lists.sizes.len(),
+                lists.costs.as_mut_ptr(),
+                lists.costs.len(),
+            )
+        })
+    }
 
-pub fn write_file(
-    settings: &Settings,
-    files: &[u16],
-    sizes: &[u32],
-    costs: &[u16],
-    out: &mut [u8],
-) -> Answer {
-    decoded(unsafe {
-        snailstamp_write_file(
-            settings.unit,
-            settings.policy,
-            settings.capacity,
-            settings.places,
-            settings.catalogue,
-            files.as_ptr(),
-            files.len(),
-            sizes.as_ptr(),
-            sizes.len(),
-            costs.as_ptr(),
-            costs.len(),
-            out.as_mut_ptr(),
-            out.len(),
-        )
-    })
-}
+    pub fn write_file(
+        &self,
+        settings: &Settings,
+        files: &[u16],
+        sizes: &[u32],
+        costs: &[u16],
+        out: &mut [u8],
+    ) -> Answer {
+        decoded(unsafe {
+            (self.write_file)(
+                settings.unit,
+                settings.policy,
+                settings.capacity,
+                settings.places,
+                settings.catalogue,
+                files.as_ptr(),
+                files.len(),
+                sizes.as_ptr(),
+                sizes.len(),
+                costs.as_ptr(),
+                costs.len(),
+                out.as_mut_ptr(),
+                out.len(),
+            )
+        })
+    }
 
-pub fn write_part(
-    catalogue: u64,
-    files: &[u16],
-    sizes: &[u32],
-    costs: &[u16],
-    out: &mut [u8],
-) -> Answer {
-    decoded(unsafe {
-        snailstamp_write_part(
-            catalogue,
-            files.as_ptr(),
-            files.len(),
-            sizes.as_ptr(),
-            sizes.len(),
-            costs.as_ptr(),
-            costs.len(),
-            out.as_mut_ptr(),
-            out.len(),
-        )
-    })
-}
+    pub fn write_part(
+        &self,
+        catalogue: u64,
+        files: &[u16],
+        sizes: &[u32],
+        costs: &[u16],
+        out: &mut [u8],
+    ) -> Answer {
+        decoded(unsafe {
+            (self.write_part)(
+                catalogue,
+                files.as_ptr(),
+                files.len(),
+                sizes.as_ptr(),
+                sizes.len(),
+                costs.as_ptr(),
+                costs.len(),
+                out.as_mut_ptr(),
+                out.len(),
+            )
+        })
+    }
 
-pub fn sheet(trace: &[u8], out: &mut [u8]) -> Answer {
-    decoded(unsafe { snailstamp_sheet(trace.as_ptr(), trace.len(), out.as_mut_ptr(), out.len()) })
-}
+    pub fn sheet(&self, trace: &[u8], out: &mut [u8]) -> Answer {
+        decoded(unsafe { (self.sheet)(trace.as_ptr(), trace.len(), out.as_mut_ptr(), out.len()) })
+    }
 
-pub fn squid_file(settings: &Settings, log: &[u8], out: &mut [u8]) -> Answer {
-    decoded(unsafe {
-        snailstamp_squid_file(
-            settings.unit,
-            settings.policy,
-            settings.capacity,
-            settings.places,
-            settings.catalogue,
-            log.as_ptr(),
-            log.len(),
-            out.as_mut_ptr(),
-            out.len(),
-        )
-    })
-}
+    pub fn squid_file(&self, settings: &Settings, log: &[u8], out: &mut [u8]) -> Answer {
+        decoded(unsafe {
+            (self.squid_file)(
+                settings.unit,
+                settings.policy,
+                settings.capacity,
+                settings.places,
+                settings.catalogue,
+                log.as_ptr(),
+                log.len(),
+                out.as_mut_ptr(),
+                out.len(),
+            )
+        })
+    }
 
-pub fn squid_part(catalogue: u64, log: &[u8], out: &mut [u8]) -> Answer {
-    decoded(unsafe {
-        snailstamp_squid_part(
-            catalogue,
-            log.as_ptr(),
-            log.len(),
-            out.as_mut_ptr(),
-            out.len(),
-        )
-    })
-}
+    pub fn squid_part(&self, catalogue: u64, log: &[u8], out: &mut [u8]) -> Answer {
+        decoded(unsafe {
+            (self.squid_part)(
+                catalogue,
+                log.as_ptr(),
+                log.len(),
+                out.as_mut_ptr(),
+                out.len(),
+            )
+        })
+    }
 
-pub fn ratios(tally: &[u64], list: &mut [f64]) -> Answer {
-    decoded(unsafe {
-        snailstamp_ratios(tally.as_ptr(), tally.len(), list.as_mut_ptr(), list.len())
-    })
+    pub fn ratios(&self, tally: &[u64], list: &mut [f64]) -> Answer {
+        decoded(unsafe {
+            (self.ratios)(tally.as_ptr(), tally.len(), list.as_mut_ptr(), list.len())
+        })
+    }
 }

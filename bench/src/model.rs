@@ -1,6 +1,7 @@
 //! The independent model: documents 01 and 02 in plain vectors, written to be read against them.
 
 pub mod limits;
+pub mod queue;
 pub mod ratios;
 pub mod red_card;
 pub mod run;

@@ -4,6 +4,9 @@ pub mod Index
 pub mod Callers
 pub mod Exchange
 pub mod Heap
+pub mod Walks
 pub mod Turns
 pub mod Hole
+pub mod Ends
 pub mod Stores
+pub mod Worked

@@ -2,9 +2,10 @@
 
 use std::time::Instant;
 
-use bench::boundary;
+use bench::boundary::NOW;
+use bench::store::median;
 
-use crate::{median, plain};
+use crate::plain;
 
 const SAMPLE: &[u8] = include_bytes!("../../../../samples/squid-5.7.log");
 const CATALOGUE: u64 = 400;
@@ -27,7 +28,7 @@ const WAYS: [(&str, Way); 3] = [
 ];
 
 fn library(log: &[u8], out: &mut [u8]) -> usize {
-    let answer = boundary::squid_part(CATALOGUE, log, out);
+    let answer = NOW.squid_part(CATALOGUE, log, out);
     assert_eq!(answer.number, 0, "the log is refused");
     answer.value as usize
 }

@@ -5,73 +5,24 @@ mod decode;
 mod logs;
 mod plain;
 mod usual;
-mod workload;
 
 use std::hint::black_box;
 use std::process::ExitCode;
 use std::time::Instant;
 
-use bench::boundary;
+use bench::boundary::NOW;
 use bench::model::limits::{MOST_CATALOGUE, MOST_REQUESTS};
-use bench::model::tables::Tables;
-use bench::model::tally::{Settings, TALLY_WORDS};
+use bench::model::tally::Settings;
+use bench::store::{median, Store};
+use bench::workload::{self, Workload, PLACES};
 
 use usual::Usual;
-use workload::Workload;
 
-const PLACES: [u64; 3] = [64, 512, 4_096];
 const DEFAULT_REQUESTS: u64 = 1_000_000;
 const DEFAULT_RUNS: u64 = 5;
 
 /// Where the tally has its hits.
 const HITS_WORD: usize = 9;
-
-/// The tables of one run, just long enough, and room for its events.
-struct Store {
-    settings: Settings,
-    tally: [u64; TALLY_WORDS],
-    tables: Tables,
-    events: Vec<u32>,
-}
-
-impl Store {
-    fn new(settings: Settings, requests: u64) -> Self {
-        let places = settings.places as usize;
-        Store {
-            settings,
-            tally: [0; TALLY_WORDS],
-            tables: Tables {
-                place: vec![0; settings.catalogue as usize],
-                file: vec![0; places],
-                size: vec![0; places],
-                cost: vec![0; places],
-                freq: vec![0; places],
-                key: vec![0; places],
-                stamp: vec![0; places],
-                queue: vec![0; places],
-            },
-            events: vec![0; 2 * requests as usize + places],
-        }
-    }
-
-    fn fresh(&mut self) {
-        let answer = boundary::fresh(&self.settings, &mut self.tally, self.tables.lend());
-        assert_eq!(answer.number, 0, "a fresh start is refused");
-    }
-
-    /// Carries on and gives the count of events.
-    fn carry_on(&mut self, part: &[u8]) -> usize {
-        let answer = boundary::carry_on(
-            self.settings.unit,
-            &mut self.tally,
-            self.tables.lend(),
-            part,
-            &mut self.events,
-        );
-        assert_eq!(answer.number, 0, "carrying on is refused");
-        answer.value as usize
-    }
-}
 
 /// Medians of one trace under one policy and number of places, in nanoseconds a request.
 struct Line {
@@ -128,7 +79,7 @@ fn time_all(workloads: &[Workload], runs: u64) -> Result<Vec<Line>, String> {
     for workload in workloads {
         for policy in [1, 2] {
             for places in PLACES {
-                let line = timed(settings(workload, policy, places), workload, runs)?;
+                let line = timed(workload.settings(policy, places), workload, runs)?;
                 print_line(&line);
                 lines.push(line);
             }
@@ -138,23 +89,13 @@ fn time_all(workloads: &[Workload], runs: u64) -> Result<Vec<Line>, String> {
     Ok(lines)
 }
 
-fn settings(workload: &Workload, policy: u64, places: u64) -> Settings {
-    Settings {
-        unit: 7,
-        policy,
-        capacity: workload.capacity(places),
-        places,
-        catalogue: MOST_CATALOGUE,
-    }
-}
-
 fn timed(settings: Settings, workload: &Workload, runs: u64) -> Result<Line, String> {
     let mut store = Store::new(settings, workload.requests);
     let [mut library, mut usual, mut decode] = [const { Vec::new() }; 3];
     for _ in 0..runs {
-        store.fresh();
+        store.fresh(&NOW);
         let start = Instant::now();
-        let count = store.carry_on(&workload.part);
+        let count = store.carry_on(&NOW, &workload.part);
         library.push(start.elapsed().as_nanos());
 
         let start = Instant::now();
@@ -187,11 +128,6 @@ fn timed(settings: Settings, workload: &Workload, runs: u64) -> Result<Line, Str
         library: each(library),
         usual: each(usual),
     })
-}
-
-fn median(mut times: Vec<u128>) -> f64 {
-    times.sort_unstable();
-    times[times.len() / 2] as f64
 }
 
 /// A sum over the events that depends on their order.
@@ -237,15 +173,15 @@ fn print_calls(workload: &Workload, runs: u64) {
     println!("\na call that serves nothing, microseconds");
     println!("places  fresh start  soundness check");
     for places in PLACES {
-        let mut store = Store::new(settings(workload, 2, places), workload.requests);
+        let mut store = Store::new(workload.settings(2, places), workload.requests);
         let [mut fresh, mut check] = [const { Vec::new() }; 2];
         for _ in 0..runs {
             let start = Instant::now();
-            store.fresh();
+            store.fresh(&NOW);
             fresh.push(start.elapsed().as_nanos());
-            store.carry_on(&workload.part);
+            store.carry_on(&NOW, &workload.part);
             let start = Instant::now();
-            store.carry_on(&[]);
+            store.carry_on(&NOW, &[]);
             check.push(start.elapsed().as_nanos());
         }
         let [fresh, check] = [fresh, check].map(|times| median(times) / 1_000.0);

@@ -4,36 +4,17 @@ use std::fmt::Debug;
 use std::hint::black_box;
 use std::sync::atomic::{AtomicU64, Ordering};
 
-use bench::boundary;
+use bench::boundary::NOW;
+pub use bench::lent::Lent;
 use bench::model::ratios::ratios_into;
 use bench::model::red_card::{Answer, Refusal};
 use bench::model::sheet::sheet_into;
 use bench::model::soundness::sound;
 use bench::model::squid;
 use bench::model::tables::{self, Carried, Tables};
-use bench::model::tally::{Settings, Tally, TALLY_WORDS};
+use bench::model::tally::{Settings, TALLY_WORDS};
 use bench::model::trace::{self, Lists, Request};
-
-/// The tally and the tables that a caller lends.
-#[derive(Clone)]
-pub struct Lent {
-    pub tally: Vec<u64>,
-    pub tables: Tables,
-}
-
-impl Lent {
-    pub fn settings(&self) -> Settings {
-        self.read_tally().settings
-    }
-
-    pub fn read_tally(&self) -> Tally {
-        Tally::read(&self.tally).expect("the tally is long enough")
-    }
-
-    pub fn set_tally(&mut self, tally: &Tally) {
-        self.tally[..TALLY_WORDS].copy_from_slice(&tally.words());
-    }
-}
+pub use bench::same::{same, same_bits, same_list};
 
 pub type Agreement = Result<Answer, String>;
 
@@ -78,9 +59,9 @@ fn kinds_of(sheet: &[u8]) -> impl Iterator<Item = u32> + '_ {
 pub fn fresh(settings: &Settings, lent: &mut Lent) -> Agreement {
     let mut expected = lent.clone();
     let result = tables::fresh(settings, &mut expected.tally, &mut expected.tables);
-    let given = boundary::fresh(settings, &mut lent.tally, lent.tables.lend());
+    let given = NOW.fresh(settings, &mut lent.tally, lent.tables.lend());
     same_answer(given, result.map(|()| 0))?;
-    same_lent(lent, &expected)?;
+    lent.same_as(&expected)?;
     Ok(given)
 }
 
@@ -88,11 +69,11 @@ pub fn carry_on(unit: u64, lent: &mut Lent, part: &[u8], events: &mut [u32]) -> 
     let before = lent.clone();
     let mut expected = events.to_vec();
     let result = tables::carry_on(unit, &before.tally, &before.tables, part, events.len());
-    let given = boundary::carry_on(unit, &mut lent.tally, lent.tables.lend(), part, events);
+    let given = NOW.carry_on(unit, &mut lent.tally, lent.tables.lend(), part, events);
     let count = result.as_ref().map(|carried| carried.events.len());
     same_answer(given, count.map_err(|refusal| *refusal))?;
     match result {
-        Err(_) => same_lent(lent, &before)?,
+        Err(_) => lent.same_as(&before)?,
         Ok(carried) => {
             expected[..carried.events.len()].copy_from_slice(&carried.events);
             carried_alike(lent, &before, &carried)?;
@@ -154,7 +135,7 @@ fn same_beyond(
 pub fn read_file(bytes: &[u8], settings: &mut [u64], lists: &mut Lists) -> Agreement {
     let mut expected = (settings.to_vec(), lists.clone());
     let result = trace::read_file(bytes, &mut expected.0, &mut expected.1);
-    let given = boundary::read_file(bytes, settings, lists.lend());
+    let given = NOW.read_file(bytes, settings, lists.lend());
     same_answer(given, result)?;
     same_list("settings", settings, &expected.0)?;
     same_lists(lists, &expected.1)?;
@@ -164,7 +145,7 @@ pub fn read_file(bytes: &[u8], settings: &mut [u64], lists: &mut Lists) -> Agree
 pub fn read_part(catalogue: u64, bytes: &[u8], lists: &mut Lists) -> Agreement {
     let mut expected = lists.clone();
     let result = trace::read_part(catalogue, bytes, &mut expected);
-    let given = boundary::read_part(catalogue, bytes, lists.lend());
+    let given = NOW.read_part(catalogue, bytes, lists.lend());
     same_answer(given, result)?;
     same_lists(lists, &expected)?;
     Ok(given)
@@ -173,7 +154,7 @@ pub fn read_part(catalogue: u64, bytes: &[u8], lists: &mut Lists) -> Agreement {
 pub fn write_file(settings: &Settings, lists: &Lists, out: &mut [u8]) -> Agreement {
     let mut expected = out.to_vec();
     let result = trace::write_file(settings, lists, &mut expected);
-    let given = boundary::write_file(settings, &lists.files, &lists.sizes, &lists.costs, out);
+    let given = NOW.write_file(settings, &lists.files, &lists.sizes, &lists.costs, out);
     same_answer(given, result)?;
     same_list("out", out, &expected)?;
     Ok(given)
@@ -182,7 +163,7 @@ pub fn write_file(settings: &Settings, lists: &Lists, out: &mut [u8]) -> Agreeme
 pub fn write_part(catalogue: u64, lists: &Lists, out: &mut [u8]) -> Agreement {
     let mut expected = out.to_vec();
     let result = trace::write_part(catalogue, lists, &mut expected);
-    let given = boundary::write_part(catalogue, &lists.files, &lists.sizes, &lists.costs, out);
+    let given = NOW.write_part(catalogue, &lists.files, &lists.sizes, &lists.costs, out);
     same_answer(given, result)?;
     same_list("out", out, &expected)?;
     Ok(given)
@@ -191,7 +172,7 @@ pub fn write_part(catalogue: u64, lists: &Lists, out: &mut [u8]) -> Agreement {
 pub fn sheet(trace: &[u8], out: &mut [u8]) -> Agreement {
     let mut expected = out.to_vec();
     let result = sheet_into(trace, &mut expected);
-    let given = boundary::sheet(trace, out);
+    let given = NOW.sheet(trace, out);
     same_answer(given, result)?;
     same_list("sheet", out, &expected)?;
     if given.number == 0 {
@@ -203,7 +184,7 @@ pub fn sheet(trace: &[u8], out: &mut [u8]) -> Agreement {
 pub fn squid_file(settings: &Settings, log: &[u8], out: &mut [u8]) -> Agreement {
     let mut expected = out.to_vec();
     let result = squid::squid_file(settings, log, &mut expected);
-    let given = framed(out, BYTE, |out| boundary::squid_file(settings, log, out))?;
+    let given = framed(out, BYTE, |out| NOW.squid_file(settings, log, out))?;
     same_answer(given, result)?;
     same_list("out", out, &expected)?;
     Ok(given)
@@ -212,7 +193,7 @@ pub fn squid_file(settings: &Settings, log: &[u8], out: &mut [u8]) -> Agreement 
 pub fn squid_part(catalogue: u64, log: &[u8], out: &mut [u8]) -> Agreement {
     let mut expected = out.to_vec();
     let result = squid::squid_part(catalogue, log, &mut expected);
-    let given = framed(out, BYTE, |out| boundary::squid_part(catalogue, log, out))?;
+    let given = framed(out, BYTE, |out| NOW.squid_part(catalogue, log, out))?;
     same_answer(given, result)?;
     same_list("out", out, &expected)?;
     Ok(given)
@@ -224,7 +205,7 @@ pub fn ratios(tally: &[u64], list: &mut [f64]) -> Agreement {
     let mut expected = list.to_vec();
     let result = ratios_into(tally, &mut expected);
     // A frame that is neither 0 nor a NaN is equal only where its bits are.
-    let given = framed(list, -7.5, |list| boundary::ratios(tally, list))?;
+    let given = framed(list, -7.5, |list| NOW.ratios(tally, list))?;
     same_answer(given, result)?;
     same_bits("ratios", list, &expected)?;
     // The compiler may take a shared slice to be unchanged, so it is read anew.
@@ -279,18 +260,6 @@ fn same_answer(given: Answer, expected: Result<usize, Refusal>) -> Result<(), St
     same("answer", &given, &expected)
 }
 
-fn same_lent(given: &Lent, expected: &Lent) -> Result<(), String> {
-    same_list("tally", &given.tally, &expected.tally)?;
-    same_list("place", &given.tables.place, &expected.tables.place)?;
-    same_list("file", &given.tables.file, &expected.tables.file)?;
-    same_list("size", &given.tables.size, &expected.tables.size)?;
-    same_list("cost", &given.tables.cost, &expected.tables.cost)?;
-    same_list("freq", &given.tables.freq, &expected.tables.freq)?;
-    same_list("key", &given.tables.key, &expected.tables.key)?;
-    same_list("stamp", &given.tables.stamp, &expected.tables.stamp)?;
-    same_list("queue", &given.tables.queue, &expected.tables.queue)
-}
-
 /// The entries that a reader wrote are these requests.
 pub fn same_requests(given: &Lists, expected: &[Request]) -> Result<(), String> {
     let read: Vec<Request> = (0..expected.len()).map(|at| given.request(at)).collect();
@@ -301,32 +270,4 @@ fn same_lists(given: &Lists, expected: &Lists) -> Result<(), String> {
     same_list("files", &given.files, &expected.files)?;
     same_list("sizes", &given.sizes, &expected.sizes)?;
     same_list("costs", &given.costs, &expected.costs)
-}
-
-pub fn same_list<T: PartialEq + Debug>(
-    what: &str,
-    given: &[T],
-    expected: &[T],
-) -> Result<(), String> {
-    same(&format!("length of {what}"), &given.len(), &expected.len())?;
-    for (index, (given, expected)) in given.iter().zip(expected).enumerate() {
-        same(&format!("{what} {index}"), given, expected)?;
-    }
-    Ok(())
-}
-
-/// Equal as numbers is not enough: a NaN is equal to nothing, and two zeros differ in their sign.
-pub fn same_bits(what: &str, given: &[f64], expected: &[f64]) -> Result<(), String> {
-    let [given, expected] = [given, expected].map(|list| {
-        let bits = list.iter().map(|entry| entry.to_bits());
-        bits.collect::<Vec<u64>>()
-    });
-    same_list(&format!("bits of {what}"), &given, &expected)
-}
-
-pub fn same<T: PartialEq + Debug>(what: &str, given: &T, expected: &T) -> Result<(), String> {
-    if given == expected {
-        return Ok(());
-    }
-    Err(format!("{what} is {given:?}, the model has {expected:?}"))
 }

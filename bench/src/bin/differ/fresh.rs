@@ -1,10 +1,10 @@
 //! Fresh starts: settings in and out of range, short tables, old contents.
 
 use bench::model::limits::{MOST_CATALOGUE, MOST_PLACES};
-use bench::model::tally::{Settings, TALLY_WORDS};
+use bench::model::tally::Settings;
 use bench::random::Random;
 
-use crate::agree::{self, Lent};
+use crate::agree;
 use crate::{make, Verdict};
 
 pub fn settings(random: &mut Random) -> Verdict {
@@ -27,33 +27,9 @@ pub fn too_short(random: &mut Random) -> Verdict {
     let mut lent = make::old_lent(random, &settings);
     let shortened = random.below(3);
     for _ in 0..shortened {
-        shorten(random, &mut lent, &settings);
+        make::shorten(random, &mut lent, &settings);
     }
     Ok(vec![agree::fresh(&settings, &mut lent)?])
-}
-
-/// Cuts one list to just its needed length, to one less, or to any less.
-pub fn shorten(random: &mut Random, lent: &mut Lent, settings: &Settings) {
-    let list = random.below(9);
-    let needed = match list {
-        0 => TALLY_WORDS,
-        1 => settings.catalogue as usize,
-        _ => settings.places as usize,
-    };
-    let any = random.index(needed);
-    let length = random.pick(&[needed, needed - 1, needed - 1, any]);
-    let tables = &mut lent.tables;
-    match list {
-        0 => lent.tally.truncate(length),
-        1 => tables.place.truncate(length),
-        2 => tables.file.truncate(length),
-        3 => tables.size.truncate(length),
-        4 => tables.cost.truncate(length),
-        5 => tables.freq.truncate(length),
-        6 => tables.key.truncate(length),
-        7 => tables.stamp.truncate(length),
-        _ => tables.queue.truncate(length),
-    }
 }
 
 /// Whatever the tables held before, a fresh start makes the same run follow.

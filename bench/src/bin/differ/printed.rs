@@ -4,10 +4,11 @@ use std::io::{ErrorKind, Result, Write};
 use std::process::{Command, Stdio};
 use std::sync::OnceLock;
 
+use bench::damage::damage;
 use bench::model::sheet::sheet;
 use bench::random::Random;
 
-use crate::{agree, damage, sheets, Verdict};
+use crate::{agree, sheets, Verdict};
 
 /// The program that the command line names, with its arguments.
 pub static PROGRAM: OnceLock<Vec<String>> = OnceLock::new();
@@ -16,7 +17,7 @@ pub fn all(random: &mut Random) -> Verdict {
     let program = PROGRAM.get().expect("a program is named");
     let mut file = sheets::good_file(random);
     if random.one_in(2) {
-        damage::damage(random, &mut file);
+        damage(random, &mut file);
     }
     let (first, second) = file.split_at(random.index(file.len() + 1));
     let printed =

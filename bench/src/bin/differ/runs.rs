@@ -7,7 +7,7 @@ use bench::random::Random;
 
 use crate::agree::{self, Agreement, Lent};
 use crate::make::Asking;
-use crate::{craft, fresh, make, Verdict};
+use crate::{craft, make, Verdict};
 
 /// Carries on with enough room for the events.
 pub fn carried(random: &mut Random, lent: &mut Lent, requests: &[Request]) -> Agreement {
@@ -83,7 +83,7 @@ pub fn too_short(random: &mut Random) -> Verdict {
     };
     let settings = lent.settings();
     let requests = make::further(random, &lent, 10);
-    fresh::shorten(random, &mut lent, &settings);
+    make::shorten(random, &mut lent, &settings);
     let part = make::part_of(&requests);
     let mut events = make::exact_list(random, 100, |word| word as u32);
     let answer = agree::carry_on(settings.unit, &mut lent, &part, &mut events)?;

@@ -1,11 +1,15 @@
 //! Zipf-like traces: a few files are asked for often, most of them seldom; in one of them files are cut anew.
 
-use bench::model::limits::{MOST_CAPACITY, MOST_CATALOGUE};
-use bench::model::trace::write_number;
-use bench::random::Random;
+use crate::model::limits::{MOST_CAPACITY, MOST_CATALOGUE};
+use crate::model::tally::Settings;
+use crate::model::trace::write_number;
+use crate::random::Random;
 
 const LEAST_SIZE: f64 = 1_000.0;
 const MOST_SIZE: f64 = 1_000_000.0;
+
+/// How many files a store keeps at once, where the traces are timed.
+pub const PLACES: [u64; 3] = [64, 512, 4_096];
 
 pub struct Workload {
     pub name: &'static str,
@@ -16,7 +20,17 @@ pub struct Workload {
 }
 
 impl Workload {
-    pub fn capacity(&self, places: u64) -> u64 {
+    pub fn settings(&self, policy: u64, places: u64) -> Settings {
+        Settings {
+            unit: 7,
+            policy,
+            capacity: self.capacity(places),
+            places,
+            catalogue: MOST_CATALOGUE,
+        }
+    }
+
+    fn capacity(&self, places: u64) -> u64 {
         self.bytes_a_place
             .map_or(MOST_CAPACITY, |bytes| places * bytes)
     }
