@@ -29,6 +29,7 @@ int main(void) {
     for (uint64_t i = 0; i < snailstamp_value(answer); i++) {
         printf("%s %u\n", kinds[events[i] / 32768], (unsigned)(events[i] % 32768));
     }
-    printf("requests %" PRIu64 " hits %" PRIu64 " dropped %" PRIu64 "\n", tally[8], tally[9], tally[17]);
+    printf("requests %" PRIu64 " hits %" PRIu64 " dropped %" PRIu64, tally[8], tally[9], tally[17]);
+    printf(" lifts %" PRIu64 "\n", tally[18]);
     return 0;
 }

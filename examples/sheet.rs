@@ -7,7 +7,7 @@ extern "C" {
 }
 
 /// No sheet is longer than this.
-const SHEET_MOST: usize = 393_616;
+const SHEET_MOST: usize = 393_629;
 
 fn sheet(trace: &[u8]) -> Option<Vec<u8>> {
     let mut out = vec![0; SHEET_MOST];

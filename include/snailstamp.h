@@ -18,8 +18,15 @@ extern "C" {
 #endif
 
 /* The tally's words, in their order: unit, policy, capacity, places, catalogue, L, bytes kept, files kept, requests, hits,
- * admitted, passed, evicted, bytes asked, hit bytes, cost asked, hit cost, dropped. */
-#define SNAILSTAMP_TALLY_WORDS 18
+ * admitted, passed, evicted, bytes asked, hit bytes, cost asked, hit cost, dropped, lifts. */
+#define SNAILSTAMP_TALLY_WORDS 19
+
+/* A run has at most so many requests; more are refused 5. */
+#define SNAILSTAMP_MOST_REQUESTS UINT64_C(4294967295)
+
+/* What a lift takes from L and from every key, before a request when L has reached it. Lifts times this, plus L, is the
+ * inflation of the whole run, and so for a key. */
+#define SNAILSTAMP_LIFT UINT64_C(1152921504606846976)
 
 /* Unit, policy, capacity, places, catalogue. */
 #define SNAILSTAMP_SETTINGS_WORDS 5
@@ -42,7 +49,8 @@ uint64_t snailstamp_fresh(uint64_t unit, uint64_t policy, uint64_t capacity, uin
 
 /* Carries a run on over a further part of its trace, only under the unit that its tally names. Value when done: events
  * written. An event is kind * 32768 + file; kinds are 1 hit, 2 admit, 3 big, 4 low, 5 evict, 6 stale. A stale copy is a
- * kept one whose size is not the request's: it is dropped, and the request goes on as a miss. */
+ * kept one whose size is not the request's: it is dropped, and the request goes on as a miss. No event depends on a lift,
+ * and a call without requests makes none. */
 uint64_t snailstamp_carry_on(uint64_t unit,
                              uint64_t *tally, size_t tally_length,
                              uint16_t *place, size_t place_length,
@@ -103,8 +111,9 @@ uint64_t snailstamp_squid_part(uint64_t catalogue,
 /* The ratios of a tally: ratios[0] is hits by requests, ratios[1] hit bytes by bytes asked, each one division rounded once,
  * to nearest as C programs start out. Both lie between 0 and 1, never a NaN: 1 only where the counts are equal, 0 only
  * where nothing hit. 11 is for a tally without requests; 7 for one whose hits, admitted and passed do not add up to its
- * requests, or whose requests, bytes asked or hit bytes are out of bounds; no other word is judged. Value when done: 0;
- * entries past two are never written. */
+ * requests, or whose requests, bytes asked or hit bytes are out of bounds; 12 for one with more than 9007199254740992
+ * bytes asked, which a double may not hold; no other word is judged. Value when done: 0; entries past two are never
+ * written. */
 uint64_t snailstamp_ratios(const uint64_t *tally, size_t tally_length, double *ratios, size_t ratios_length);
 
 #ifdef __cplusplus

@@ -1,5 +1,6 @@
 //! The independent model: documents 01 and 02 in plain vectors, written to be read against them.
 
+pub mod lifts;
 pub mod limits;
 pub mod queue;
 pub mod ratios;
@@ -16,3 +17,5 @@ pub mod trace;
 mod pieces;
 #[cfg(test)]
 mod recuts;
+#[cfg(test)]
+mod season;

@@ -11,64 +11,118 @@ const MOST_SIZE: f64 = 1_000_000.0;
 /// How many files a store keeps at once, where the traces are timed.
 pub const PLACES: [u64; 3] = [64, 512, 4_096];
 
-pub struct Workload {
+/// A trace that is timed in one call is made whole in memory first, so there is a most to it.
+pub const MOST_AT_ONCE: u64 = 10_000_000;
+
+/// What one sort of trace is made by.
+#[derive(Clone, Copy)]
+pub struct Sort {
     pub name: &'static str,
-    pub requests: u64,
-    pub part: Vec<u8>,
+    skew: f64,
     /// Bytes of capacity for each place, if the bytes are to bind before the places.
     bytes_a_place: Option<u64>,
+    /// One request in so many finds its file cut anew.
+    recuts: Option<u64>,
 }
 
-impl Workload {
+pub const HIT_HEAVY: Sort = Sort {
+    name: "hit-heavy",
+    skew: 1.4,
+    bytes_a_place: None,
+    recuts: None,
+};
+
+pub const MISS_HEAVY: Sort = Sort {
+    name: "miss-heavy",
+    skew: 0.6,
+    bytes_a_place: Some(40_000),
+    recuts: None,
+};
+
+const RECUT: Sort = Sort {
+    name: "recut",
+    recuts: Some(20),
+    ..HIT_HEAVY
+};
+
+impl Sort {
     pub fn settings(&self, policy: u64, places: u64) -> Settings {
+        let bytes = self.bytes_a_place.map(|bytes| places * bytes);
         Settings {
             unit: 7,
             policy,
-            capacity: self.capacity(places),
+            capacity: bytes.unwrap_or(MOST_CAPACITY),
             places,
             catalogue: MOST_CATALOGUE,
         }
     }
 
-    fn capacity(&self, places: u64) -> u64 {
-        self.bytes_a_place
-            .map_or(MOST_CAPACITY, |bytes| places * bytes)
+    pub fn asking(&self) -> Asking {
+        let mut random = Random::new(self.skew.to_bits());
+        Asking {
+            files: files(&mut random),
+            random,
+            heights: heights(self.skew),
+            recuts: self.recuts,
+        }
     }
 }
 
-/// In the last one, one request in this many finds its file cut anew.
-const RECUT_CHANCES: u64 = 20;
+/// The requests of a trace, one after the other without an end.
+pub struct Asking {
+    random: Random,
+    files: Vec<[u64; 3]>,
+    heights: Vec<f64>,
+    recuts: Option<u64>,
+}
+
+impl Asking {
+    /// Puts so many further requests in place of what the part held.
+    pub fn fill(&mut self, part: &mut Vec<u8>, requests: u64) {
+        part.clear();
+        for _ in 0..requests {
+            for number in self.request() {
+                write_number(number, part);
+            }
+        }
+    }
+
+    fn request(&mut self) -> [u64; 3] {
+        let height = self.random.fraction() * self.heights[self.heights.len() - 1];
+        let rank = self.heights.partition_point(|&below| below <= height);
+        let recuts = self.recuts;
+        if recuts.is_some_and(|chances| self.random.one_in(chances)) {
+            self.files[rank][1] = size(&mut self.random);
+        }
+        self.files[rank]
+    }
+}
+
+/// A trace that is timed in one call.
+pub struct Workload {
+    pub name: &'static str,
+    pub requests: u64,
+    pub part: Vec<u8>,
+    sort: Sort,
+}
+
+impl Workload {
+    pub fn settings(&self, policy: u64, places: u64) -> Settings {
+        self.sort.settings(policy, places)
+    }
+}
 
 pub fn all(requests: u64) -> [Workload; 3] {
-    let trace = |name, skew, bytes_a_place, recuts| Workload {
-        name,
-        requests,
-        part: part(requests, skew, recuts),
-        bytes_a_place,
-    };
-    [
-        trace("hit-heavy", 1.4, None, None),
-        trace("miss-heavy", 0.6, Some(40_000), None),
-        trace("recut", 1.4, None, Some(RECUT_CHANCES)),
-    ]
-}
-
-fn part(requests: u64, skew: f64, recuts: Option<u64>) -> Vec<u8> {
-    let mut random = Random::new(skew.to_bits());
-    let mut files = files(&mut random);
-    let heights = heights(skew);
-    let mut part = Vec::new();
-    for _ in 0..requests {
-        let height = random.fraction() * heights[heights.len() - 1];
-        let rank = heights.partition_point(|&below| below <= height);
-        if recuts.is_some_and(|chances| random.one_in(chances)) {
-            files[rank][1] = size(&mut random);
+    [HIT_HEAVY, MISS_HEAVY, RECUT].map(|sort| {
+        let mut part = Vec::new();
+        sort.asking().fill(&mut part, requests);
+        Workload {
+            name: sort.name,
+            requests,
+            part,
+            sort,
         }
-        for number in files[rank] {
-            write_number(number, &mut part);
-        }
-    }
-    part
+    })
 }
 
 fn size(random: &mut Random) -> u64 {

@@ -128,7 +128,7 @@ fn theorem(n: u64, settings: Settings, requests: &[Request]) -> String {
     let expected = [
         list(&events),
         list(&totals(&run.tally)),
-        list(&[run.tally.inflation]),
+        list(&[run.tally.whole_inflation]),
     ];
     let slots = (0..settings.catalogue).map(|file| slot(&run.kept, file));
     let expected: Vec<String> = expected.into_iter().chain(slots).collect();
@@ -169,7 +169,9 @@ fn totals(tally: &Tally) -> [u64; 10] {
 fn slot(kept: &[Kept], file: u64) -> String {
     let found = kept.iter().find(|kept| kept.file == file);
     found.map_or("[]".into(), |kept| {
-        list(&[kept.size, kept.cost, kept.frequency, kept.key, kept.stamp])
+        let [size, cost, frequency, stamp] =
+            [kept.size, kept.cost, kept.frequency, kept.stamp].map(u128::from);
+        list(&[size, cost, frequency, kept.key, stamp])
     })
 }
 

@@ -6,12 +6,12 @@
 
 use std::process::ExitCode;
 
-use bench::model::limits::{MOST_CATALOGUE, MOST_REQUESTS};
-use bench::model::queue::{Operation, Queue, KINDS, WAYS};
+use bench::model::limits::MOST_CATALOGUE;
+use bench::model::queue::{Operation, Queue, Rank, KINDS, WAYS};
 use bench::model::run::{Outcome, Run};
 use bench::model::tally::Settings;
 use bench::model::trace::{read_requests, Request};
-use bench::workload::{self, PLACES};
+use bench::workload::{self, MOST_AT_ONCE, PLACES};
 
 const DEFAULT_REQUESTS: u64 = 100_000;
 
@@ -117,7 +117,7 @@ impl Replay {
         self.operate(Operation::Rekey { at, rank });
     }
 
-    fn rank(&self, file: usize) -> (u64, u64) {
+    fn rank(&self, file: usize) -> Rank {
         let mut kept = self.run.kept.iter();
         let found = kept.find(|kept| kept.file == file as u64);
         found
@@ -135,7 +135,7 @@ impl Replay {
 fn main() -> ExitCode {
     let word = std::env::args().nth(1);
     let requests = word.map_or(Ok(DEFAULT_REQUESTS), |word| word.parse());
-    let Ok(requests @ 1..=MOST_REQUESTS) = requests else {
+    let Ok(requests @ 1..=MOST_AT_ONCE) = requests else {
         eprintln!("stores [REQUESTS]");
         return ExitCode::from(2);
     };

@@ -7,9 +7,17 @@ pub const MOST_PLACES: u64 = 4_096;
 pub const MOST_CATALOGUE: u64 = 32_768;
 pub const MOST_SIZE: u64 = 16_777_215;
 pub const MOST_COST: u64 = 65_535;
-pub const MOST_REQUESTS: u64 = 1_048_576;
+pub const MOST_REQUESTS: u64 = 4_294_967_295;
+pub const MOST_FREQUENCY: u64 = 1_048_575;
 pub const MOST_WORTH: u64 = 1_099_494_850_560;
 pub const SCALE: u64 = 16_777_216;
+
+/// What one lift takes from L and from every key: 2 to the 60th.
+pub const LIFT: u64 = 1_152_921_504_606_846_976;
+/// L of sound tables stays below 2 to the 61st, so that one lift brings it below 2 to the 60th.
+pub const INFLATION_BOUND: u64 = 2 * LIFT;
+/// Every whole number up to 2 to the 53rd is a double.
+pub const MOST_EXACT: u64 = 9_007_199_254_740_992;
 
 /// Bytes that one packet of the estimate carries.
 const PACKET: u64 = 536;

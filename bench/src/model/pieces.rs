@@ -2,10 +2,10 @@
 
 use super::limits::{in_force, worth, MOST_REQUESTS, MOST_SIZE, MOST_WORTH};
 use super::red_card::Refusal;
-use super::run::{Kept, Outcome, Run};
+use super::run::{Outcome, Run};
 use super::sheet::{sheet, SHEET_INPUT};
 use super::tables::{carry_on, fresh, Tables};
-use super::tally::{Settings, TALLY_WORDS};
+use super::tally::{Settings, Tally, TALLY_WORDS};
 use super::trace::{
     read_file, read_number, read_part, write_file, write_number, write_part, Lists, Request,
 };
@@ -28,7 +28,7 @@ big 4
 requests 6 hits 1 admitted 4 passed 1 evicted 2 dropped 0
 bytes 336 hitbytes 64
 cost 12 hitcost 4
-L 1048576 used 48 files 2
+lifts 0 L 1048576 used 48 files 2
 ";
 
 const SETTINGS: Settings = Settings {
@@ -71,7 +71,7 @@ fn replay(bytes: &[u8]) -> (Run, Vec<u32>) {
     (run, events)
 }
 
-fn key_of(run: &Run, file: u64) -> u64 {
+fn key_of(run: &Run, file: u64) -> u128 {
     let found = run.kept.iter().find(|kept| kept.file == file);
     found.expect("the file is kept").key
 }
@@ -126,7 +126,7 @@ fn the_example_under_policy_2() {
         .filter(|event| event / 32_768 == 5)
         .collect();
     assert_eq!(evicted, [5 * 32_768 + 2, 5 * 32_768 + 3]);
-    assert_eq!(run.tally.inflation, 1_048_576);
+    assert_eq!(run.tally.inflation(), 1_048_576);
     assert_eq!(key_of(&run, 1), 2_097_152);
     assert_eq!(key_of(&run, 2), 1_048_576);
     assert_eq!(run.kept.len(), 2);
@@ -162,36 +162,26 @@ fn with_one_place_each_new_file_evicts_the_one_before() {
     assert_eq!(kinds_and_files, [(2, 1), (5, 1), (2, 2), (5, 2), (2, 3)]);
 }
 
+/// Tables of no file, whose requests so far were all big.
 #[test]
 fn the_run_limit_passes_and_one_more_is_refused() {
-    let (mut tally, mut tables) = fresh_tables(&SETTINGS);
-    let part: Vec<u8> = [1, 5, 1].repeat(MOST_REQUESTS as usize);
-    let room = 2 * MOST_REQUESTS as usize + 1;
-    let carried = carry_on(7, &tally, &tables, &part, room).expect("the limit itself passes");
-    assert_eq!(carried.events.len() as u64, MOST_REQUESTS);
-    tally = carried.run.tally.words();
-    let [Kept {
-        file,
-        size,
-        cost,
-        frequency,
-        key,
-        stamp,
-    }] = carried.run.kept[..]
-    else {
-        panic!("one file is kept");
+    let (words, tables) = fresh_tables(&SETTINGS);
+    let served = MOST_REQUESTS - 2;
+    let tally = Tally {
+        requests: served,
+        passed: served,
+        bytes_asked: served * 101,
+        cost_asked: served,
+        ..Tally::from_words(words)
     };
-    tables.place[file as usize] = 0;
-    tables.file[0] = file as u16;
-    tables.size[0] = size as u32;
-    tables.cost[0] = cost as u16;
-    tables.freq[0] = frequency as u32;
-    tables.key[0] = key;
-    tables.stamp[0] = stamp;
-    let refusal = |part: &[u8], room| carry_on(7, &tally, &tables, part, room).err();
-    assert_eq!(refusal(&[], 1), None);
-    assert_eq!(refusal(&[1, 5, 1], 0), Some(Refusal::RunLimit));
-    assert_eq!(refusal(&[], 0), Some(Refusal::Room));
+    let served = |part: &[u8], room| carry_on(7, &tally.words(), &tables, part, room);
+    let two = served(&[1, 101, 1, 1, 101, 1], 4).expect("the limit itself passes");
+    assert_eq!(two.run.tally.requests, MOST_REQUESTS);
+    let refusal = |part: &[u8], room| served(part, room).err();
+    assert_eq!(refusal(&[1, 101, 1].repeat(3), 0), Some(Refusal::RunLimit));
+    let at_the_limit = |part: &[u8]| carry_on(7, &two.run.tally.words(), &tables, part, 0);
+    assert_eq!(at_the_limit(&[]).err(), None);
+    assert_eq!(at_the_limit(&[1, 101, 1]).err(), Some(Refusal::RunLimit));
 }
 
 #[test]
@@ -209,7 +199,7 @@ fn a_low_newcomer_leaves_all_as_it_stood() {
     };
     assert_eq!(run.serve(low).outcome, Outcome::Low);
     assert_eq!(run.kept, kept);
-    assert_eq!(run.tally.inflation, 0);
+    assert_eq!(run.tally.inflation(), 0);
 }
 
 #[test]

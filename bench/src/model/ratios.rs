@@ -1,5 +1,6 @@
 //! Hit ratio and byte hit ratio of a tally, for the fitters.
 
+use super::limits::MOST_EXACT;
 use super::red_card::{require, Refusal};
 use super::soundness::{bytes_in_range, requests_add_up};
 use super::tally::Tally;
@@ -17,6 +18,7 @@ pub fn ratios(tally: &[u64]) -> Result<Ratios, Refusal> {
     require(tally.requests > 0, Refusal::NoRequests)?;
     let is_sound = requests_add_up(&tally) && bytes_in_range(&tally);
     require(is_sound, Refusal::Unsound)?;
+    require(tally.bytes_asked <= MOST_EXACT, Refusal::Inexact)?;
     Ok(Ratios {
         hit: ratio(tally.hits, tally.requests),
         byte_hit: ratio(tally.hit_bytes, tally.bytes_asked),
@@ -31,7 +33,7 @@ pub fn ratios_into(tally: &[u64], list: &mut [f64]) -> Result<usize, Refusal> {
     Ok(0)
 }
 
-/// Sound counts are below 2 to the 53rd, so neither conversion rounds and the division does so once.
+/// No count is above 2 to the 53rd, so neither conversion rounds and the division does so once.
 fn ratio(part: u64, whole: u64) -> f64 {
     part as f64 / whole as f64
 }
@@ -85,7 +87,7 @@ mod tests {
     #[test]
     fn all_hit_is_1_and_nothing_hit_is_0() {
         for requests in [1, 2, 3, 49, MOST_REQUESTS - 1, MOST_REQUESTS] {
-            for bytes in [requests, requests + 5, requests * MOST_SIZE] {
+            for bytes in [requests, requests + 5, MOST_EXACT.min(requests * MOST_SIZE)] {
                 assert_eq!(bits(tally(requests, requests, bytes, bytes)), [ONE, ONE]);
                 assert_eq!(bits(tally(requests, 0, bytes, 0)), [0, 0]);
             }
@@ -94,11 +96,12 @@ mod tests {
 
     #[test]
     fn the_largest_counts() {
-        let (requests, bytes) = (MOST_REQUESTS, MOST_REQUESTS * MOST_SIZE);
-        let one = [0x3eb0_0000_0000_0000, 0x3d30_0000_1000_0010];
+        let (requests, bytes) = (MOST_REQUESTS, MOST_EXACT);
+        let one = [0x3df0_0000_0010_0000, 0x3ca0_0000_0000_0000];
         assert_eq!(bits(tally(requests, 1, bytes, 1)), one);
-        let all_but_one = tally(requests, requests - 1, bytes, bytes - MOST_SIZE);
-        assert_eq!(bits(all_but_one), [0x3fef_fffe_0000_0000; 2]);
+        let all_but_one = [0x3fef_ffff_ffe0_0000, 0x3fef_ffff_ffff_ffff];
+        let counts = tally(requests, requests - 1, bytes, bytes - 1);
+        assert_eq!(bits(counts), all_but_one);
     }
 
     #[test]
@@ -129,6 +132,10 @@ mod tests {
         );
         assert_eq!(refused(&none.words(), 1), Refusal::NoRequests);
         assert_eq!(refused(&unsound.words(), 1), Refusal::Unsound);
+        let many = tally(MOST_REQUESTS, 1, MOST_EXACT + 1, 1);
+        let unsound_too = Tally { passed: 1, ..many };
+        assert_eq!(refused(&unsound_too.words(), 1), Refusal::Unsound);
+        assert_eq!(refused(&many.words(), 1), Refusal::Inexact);
         assert_eq!(refused(&good.words(), 1), Refusal::Room);
         assert_eq!(refused(&good.words(), 0), Refusal::Room);
     }

@@ -1,6 +1,6 @@
 //! Ticket 2: a request whose size is not the kept one drops the old copy and goes on as a miss.
 
-use super::limits::worth;
+use super::limits::{product, worth, MOST_FREQUENCY};
 use super::pieces::fresh_tables;
 use super::run::{Kept, Outcome, Reply, Run};
 use super::sheet::sheet;
@@ -56,7 +56,7 @@ fn a_recut_that_fits_is_kept_anew_with_frequency_1() {
             size: 50,
             cost: 9,
             frequency: 1,
-            key: worth(9, 50),
+            key: worth(9, 50).into(),
             stamp: 3,
         };
         assert_eq!(run.kept, [newcomer]);
@@ -111,7 +111,7 @@ fn a_low_recut_leaves_no_copy_and_evicts_nothing() {
     let reply = ask(&mut run, [1, 100, 1]);
     assert_eq!(reply, recut(Outcome::Low));
     assert_eq!([kept(&run, 1), kept(&run, 2)], [None, neighbour]);
-    assert_eq!([run.tally.inflation, run.tally.bytes_kept], [0, 40]);
+    assert_eq!([run.tally.inflation(), run.tally.bytes_kept], [0, 40]);
     let tally = &run.tally;
     assert_eq!([tally.evicted, tally.dropped, tally.passed], [0, 1, 1]);
 }
@@ -134,15 +134,15 @@ fn inflation_is_unmoved_by_a_drop() {
     for settings in [SETTINGS, SECOND] {
         let filled = [[2, 40, 1], [1, 60, 4], [3, 30, 9]];
         let mut run = after(settings, &filled);
-        let inflation = run.tally.inflation;
+        let inflation = run.tally.whole_inflation;
         assert!(inflation > 0, "file 2 was evicted");
         let lowest = kept(&run, 1).expect("the file is kept").key;
         assert!(lowest > inflation);
         ask(&mut run, [1, 50, 4]);
-        assert_eq!(run.tally.inflation, inflation);
+        assert_eq!(run.tally.whole_inflation, inflation);
         assert_eq!(
             kept(&run, 1).map(|file| file.key),
-            Some(inflation + worth(4, 50))
+            Some(inflation + product(1, 4, 50))
         );
     }
 }
@@ -164,7 +164,7 @@ big 1
 requests 5 hits 1 admitted 3 passed 1 evicted 1 dropped 2
 bytes 323 hitbytes 61
 cost 17 hitcost 4
-L 419430 used 0 files 0
+lifts 0 L 419430 used 0 files 0
 ";
     assert_eq!(sheet(&bytes), text);
 }
@@ -208,8 +208,8 @@ impl Plain {
             .retain(|kept| kept.file != file || kept.size == size);
         let policy = self.settings.policy;
         if let Some(kept) = self.files.iter_mut().find(|kept| kept.file == file) {
-            kept.frequency += policy - 1;
-            kept.key = kept.frequency * worth(kept.cost, size);
+            kept.frequency = (kept.frequency + policy - 1).min(MOST_FREQUENCY);
+            kept.key = product(kept.frequency, kept.cost, size);
             kept.stamp = stamp;
             return (Vec::new(), 1);
         }
@@ -221,7 +221,7 @@ impl Plain {
             size,
             cost,
             frequency: 1,
-            key: worth(cost, size),
+            key: product(1, cost, size),
             stamp,
         };
         self.admit(newcomer)
@@ -309,7 +309,7 @@ fn credits(run: &Run) -> Vec<Kept> {
     let mut files = in_order(&run.kept);
     files
         .iter_mut()
-        .for_each(|file| file.key -= run.tally.inflation);
+        .for_each(|file| file.key -= run.tally.whole_inflation);
     files
 }
 

@@ -16,6 +16,8 @@ pub enum Refusal {
     /// The number of a log's line, counted from 1.
     BadLine(usize),
     NoRequests,
+    /// Bytes asked are past what a double holds exactly.
+    Inexact,
 }
 
 impl Refusal {
@@ -32,6 +34,7 @@ impl Refusal {
             Refusal::LongInput => 9,
             Refusal::BadLine(_) => 10,
             Refusal::NoRequests => 11,
+            Refusal::Inexact => 12,
         }
     }
 

@@ -1,17 +1,18 @@
 //! The run under both policies, over a plain vector of the kept files.
 
-use super::limits::{in_force, worth};
+use super::lifts::{lifts_for_a_request, whole, word_of};
+use super::limits::{in_force, product, MOST_FREQUENCY};
 use super::tally::{Settings, Tally};
 use super::trace::Request;
 
-/// One kept file.
+/// One kept file; its key is whole in a run, and less the lifts in the tables.
 #[derive(Clone, Copy, Debug, PartialEq, Eq)]
 pub struct Kept {
     pub file: u64,
     pub size: u64,
     pub cost: u64,
     pub frequency: u64,
-    pub key: u64,
+    pub key: u128,
     pub stamp: u64,
 }
 
@@ -41,7 +42,7 @@ enum Kind {
     Stale = 6,
 }
 
-/// A run: its tally, and the kept files in no special order.
+/// A run in whole numbers: its tally, and the kept files in no special order. What it does never asks for the lifts.
 #[derive(Clone, Debug, PartialEq, Eq)]
 pub struct Run {
     pub tally: Tally,
@@ -56,6 +57,24 @@ impl Run {
         }
     }
 
+    /// The run that sound tables stand for.
+    pub fn over(tally: Tally, mut kept: Vec<Kept>) -> Self {
+        for file in &mut kept {
+            file.key += whole(tally.lifts, 0);
+        }
+        Run { tally, kept }
+    }
+
+    /// The kept files by number with the keys that the tables have of them.
+    pub fn shelf(&self) -> Vec<Kept> {
+        let mut kept = self.kept.clone();
+        for file in &mut kept {
+            file.key = word_of(self.tally.lifts, file.key).into();
+        }
+        kept.sort_by_key(|file| file.file);
+        kept
+    }
+
     /// Serves the requests in order and gives their events.
     pub fn serve_all(&mut self, requests: &[Request]) -> Vec<u32> {
         let mut events = Vec::new();
@@ -67,6 +86,7 @@ impl Run {
     }
 
     pub fn serve(&mut self, request: Request) -> Reply {
+        self.tally.lifts = lifts_for_a_request(self.tally.lifts, self.tally.whole_inflation);
         let stale = self.drop_stale(request);
         let newcomer = Kept {
             file: request.file,
@@ -100,9 +120,10 @@ impl Run {
     fn hit(&mut self, index: usize) -> Outcome {
         let kept = &mut self.kept[index];
         if self.tally.settings.policy == 2 {
-            kept.frequency += 1;
+            kept.frequency = (kept.frequency + 1).min(MOST_FREQUENCY);
         }
-        kept.key = self.tally.inflation + kept.frequency * worth(kept.cost, kept.size);
+        let credit = product(kept.frequency, kept.cost, kept.size);
+        kept.key = self.tally.whole_inflation + credit;
         kept.stamp = self.tally.requests;
         self.tally.hits += 1;
         self.tally.hit_bytes += kept.size;
@@ -137,17 +158,17 @@ impl Run {
         let mut evicted = Vec::new();
         while !self.fits(newcomer.size) {
             let lowest = take_lowest(&mut self.kept);
-            self.tally.inflation = lowest.key;
+            self.tally.whole_inflation = lowest.key;
             evicted.push(lowest);
         }
-        newcomer.key = self.tally.inflation + worth(newcomer.cost, newcomer.size);
+        newcomer.key = self.tally.whole_inflation + product(1, newcomer.cost, newcomer.size);
         self.kept.push(newcomer);
         Outcome::Admitted(evicted)
     }
 
     /// The key has the inflation from before; nothing goes until the newcomer is known to stay.
     fn admit_by_policy_2(&mut self, mut newcomer: Kept) -> Outcome {
-        newcomer.key = self.tally.inflation + worth(newcomer.cost, newcomer.size);
+        newcomer.key = self.tally.whole_inflation + product(1, newcomer.cost, newcomer.size);
         let mut remaining = self.kept.clone();
         remaining.push(newcomer);
         let mut taken = Vec::new();
@@ -158,7 +179,7 @@ impl Run {
             return Outcome::Low;
         }
         if let Some(last) = taken.last() {
-            self.tally.inflation = last.key;
+            self.tally.whole_inflation = last.key;
         }
         self.kept = remaining;
         Outcome::Admitted(taken)

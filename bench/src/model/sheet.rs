@@ -35,7 +35,7 @@ fn replay(trace: &[u8]) -> Result<(Run, Vec<u32>), Refusal> {
     Ok((run, events))
 }
 
-fn text(tally: &Tally, events: &[u32]) -> String {
+pub(super) fn text(tally: &Tally, events: &[u32]) -> String {
     let mut text = format!("unit {}\n", tally.settings.unit);
     for event in events {
         let kind = KIND_NAMES[(event / 32_768) as usize];
@@ -48,8 +48,11 @@ fn text(tally: &Tally, events: &[u32]) -> String {
     text += &format!("bytes {} hitbytes {}\n", tally.bytes_asked, tally.hit_bytes);
     text += &format!("cost {} hitcost {}\n", tally.cost_asked, tally.hit_cost);
     text += &format!(
-        "L {} used {} files {}\n",
-        tally.inflation, tally.bytes_kept, tally.files_kept
+        "lifts {} L {} used {} files {}\n",
+        tally.lifts,
+        tally.inflation(),
+        tally.bytes_kept,
+        tally.files_kept
     );
     text
 }

@@ -1,6 +1,8 @@
 //! When lent tables and a tally are sound, condition by condition, for any words at all.
 
-use super::limits::{product, MOST_COST, MOST_REQUESTS, MOST_SIZE, MOST_WORTH};
+use super::limits::{
+    product, INFLATION_BOUND, MOST_COST, MOST_FREQUENCY, MOST_REQUESTS, MOST_SIZE, MOST_WORTH,
+};
 use super::run::Kept;
 use super::tables::{Tables, NO_PLACE};
 use super::tally::Tally;
@@ -112,7 +114,7 @@ fn records_in_range(tally: &Tally, tables: &Tables) -> bool {
     occupied_records(tally, tables).iter().all(|kept| {
         (1..=MOST_SIZE).contains(&kept.size)
             && (1..=MOST_COST).contains(&kept.cost)
-            && kept.frequency >= 1
+            && (1..=MOST_FREQUENCY).contains(&kept.frequency)
             && (tally.settings.policy == 2 || kept.frequency == 1)
     })
 }
@@ -152,18 +154,22 @@ fn unused_are_zero(tally: &Tally, tables: &Tables) -> bool {
     unused.all(|place| tables.record(place) == zero) && past.all(|&entry| entry == 0)
 }
 
+/// Of L and the keys as they stand.
 fn keys_in_range(tally: &Tally, tables: &Tables) -> bool {
+    let inflation = wide(tally.inflation());
     occupied_records(tally, tables).iter().all(|kept| {
         let credit = product(kept.frequency, kept.cost, kept.size);
-        tally.inflation <= kept.key && wide(kept.key) <= wide(tally.inflation) + credit
+        inflation <= kept.key && kept.key <= inflation + credit
     })
 }
 
+/// L by itself, and the whole inflation with all the products; nothing is cut off at 64 bits.
 fn inflation_bounded(tally: &Tally, tables: &Tables) -> bool {
     let records = occupied_records(tally, tables);
     let products: u128 = records
         .iter()
         .map(|kept| product(kept.frequency, kept.cost, kept.size))
         .sum();
-    wide(tally.inflation) + products <= wide(tally.requests) * wide(MOST_WORTH)
+    tally.inflation() < INFLATION_BOUND
+        && tally.whole_inflation + products <= wide(tally.requests) * wide(MOST_WORTH)
 }

@@ -50,12 +50,12 @@ impl Tables {
             size: self.size[place].into(),
             cost: self.cost[place].into(),
             frequency: self.freq[place].into(),
-            key: self.key[place],
+            key: self.key[place].into(),
             stamp: self.stamp[place],
         }
     }
 
-    /// Sound tables stand for this: the records by file number, whatever their places.
+    /// What sound tables keep: the records by file number with the keys that they have there, whatever their places.
     pub fn shelf(&self, catalogue: u64) -> Vec<Kept> {
         let occupied = self.place[..catalogue as usize]
             .iter()
@@ -64,7 +64,7 @@ impl Tables {
     }
 }
 
-/// Where carrying on leads: the run after the part, its files by number, and the new events.
+/// Where carrying on leads: the run after the part, and the new events.
 pub struct Carried {
     pub run: Run,
     pub events: Vec<u32>,
@@ -106,8 +106,7 @@ pub fn carry_on(
     require(tally.requests + count <= MOST_REQUESTS, Refusal::RunLimit)?;
     require(room as u64 >= 2 * count + tally.files_kept, Refusal::Room)?;
     let kept = tables.shelf(tally.settings.catalogue);
-    let mut run = Run { tally, kept };
+    let mut run = Run::over(tally, kept);
     let events = run.serve_all(&requests);
-    run.kept.sort_by_key(|kept| kept.file);
     Ok(Carried { run, events })
 }

@@ -1,5 +1,6 @@
 //! The settings and the tally of a run, and their words in the boundary's order.
 
+use super::lifts::{whole, word_of};
 use super::limits::{MOST_CAPACITY, MOST_CATALOGUE, MOST_PLACES, MOST_POLICY, MOST_UNIT};
 
 /// Least and most of each setting, in the order of a trace file.
@@ -11,7 +12,7 @@ pub const SETTING_RANGES: [(u64, u64); 5] = [
     (1, MOST_CATALOGUE),
 ];
 
-pub const TALLY_WORDS: usize = 18;
+pub const TALLY_WORDS: usize = 19;
 
 #[derive(Clone, Copy, Debug, PartialEq, Eq)]
 pub struct Settings {
@@ -61,7 +62,8 @@ pub fn catalogue_in_range(catalogue: u64) -> bool {
 #[derive(Clone, Copy, Debug, PartialEq, Eq)]
 pub struct Tally {
     pub settings: Settings,
-    pub inflation: u64,
+    /// L and all that was taken from it: a lift leaves this as it was.
+    pub whole_inflation: u128,
     pub bytes_kept: u64,
     pub files_kept: u64,
     pub requests: u64,
@@ -74,6 +76,7 @@ pub struct Tally {
     pub cost_asked: u64,
     pub hit_cost: u64,
     pub dropped: u64,
+    pub lifts: u64,
 }
 
 impl Tally {
@@ -91,7 +94,7 @@ impl Tally {
     pub fn from_words(words: [u64; TALLY_WORDS]) -> Self {
         Tally {
             settings: Settings::from_words([words[0], words[1], words[2], words[3], words[4]]),
-            inflation: words[5],
+            whole_inflation: whole(words[18], words[5]),
             bytes_kept: words[6],
             files_kept: words[7],
             requests: words[8],
@@ -104,7 +107,13 @@ impl Tally {
             cost_asked: words[15],
             hit_cost: words[16],
             dropped: words[17],
+            lifts: words[18],
         }
+    }
+
+    /// L as the tally has it.
+    pub fn inflation(&self) -> u64 {
+        word_of(self.lifts, self.whole_inflation)
     }
 
     pub fn words(&self) -> [u64; TALLY_WORDS] {
@@ -115,7 +124,7 @@ impl Tally {
             capacity,
             places,
             catalogue,
-            self.inflation,
+            self.inflation(),
             self.bytes_kept,
             self.files_kept,
             self.requests,
@@ -128,6 +137,7 @@ impl Tally {
             self.cost_asked,
             self.hit_cost,
             self.dropped,
+            self.lifts,
         ]
     }
 }

@@ -2,21 +2,19 @@
 use mathlib.Core.Path.{_≡_, refl, sym, ap, _∙_, subst}
 use mathlib.Core.Bool.{Bool, true, false, _&&_}
 use mathlib.Core.List.{List, [], _∷_}
-use Prim.Native.Nat.{ℕ, _+_, _-_, _*_, _≤_, _<_}
+use Prim.Native.Nat.{ℕ, _+_, _-_, _≤_, _<_}
 use native.Mathlib.Omega.{arith}
-use native.Mathlib.Nat.{mul-le-mul-right}
 use lib.Dec.{leb}
 use lib.ListN.{length, getD, set, drop, length-set}
 use lib.Seq.{getD-set-same}
 use borrow.Author.Tests.{leb-true}
-use Rattle.amounts.specs.Limits.{requestsMost, word}
-use Rattle.amounts.specs.Worth.{worthMost, productOf}
+use Rattle.amounts.specs.Limits.{word}
+use Rattle.amounts.specs.Worth.{productOf}
 use Rattle.amounts.specs.Requests.{Request}
-use Rattle.amounts.proofs.Values.{product-most}
+use Rattle.amounts.proofs.Values.{product-lift}
 use Rattle.method.specs.Shelf.{none, kept, Shelf, bytes, files, Each}
 use Rattle.method.specs.Method.{Policy, gds, gdsf, Gone, State, Served, served, missed, keyed, newcomer, admit}
 use Rattle.method.specs.Method as method
-use Rattle.method.specs.Promise.{Small}
 use Rattle.method.specs.declared.outcome.Pass.the-variants.{LowKey}
 use Rattle.method.specs.declared.outcome.Outcome.the-variants.{Admitted, Passed}
 use Rattle.tables.specs.Tables.{Tables, shelfOf}
@@ -101,7 +99,7 @@ module _ {a : Tally} {q : Request} {t : Tables} {entry free events : List ℕ} {
       record { inside = meetings.slot-in (h .meetable); free = meetings.slot-free (h .meetable) (h .out); stamps = y .stamps; apart = y .apart }
 
   keys-small : Each (λ r. r .key ≤ word - 1) shelf
-  keys-small i r e = omega (arith, meetings.small-before (h .meetable) .keys i r e)
+  keys-small i r e = omega (arith, meetings.keys-before (h .meetable) i r e)
 
   stays-as : made .low ≡ false
       → admits a q t
@@ -114,10 +112,7 @@ module _ {a : Tally} {q : Request} {t : Tables} {entry free events : List ℕ} {
   -- ---- what making room asks
 
   pub key-fits : a .inflation .0 + productOf 1 (q .size) (q .cost) < word
-  key-fits =
-      let f : a .requests ≤ requestsMost = omega (arith, h .meetable .few) in
-      let b : a .requests * worthMost ≤ requestsMost * worthMost = mul-le-mul-right worthMost f in
-      omega (arith, meetings.sound (h .meetable) .total, product-most 1 (q .size) (q .cost) (h .meetable .valued))
+  key-fits = omega (arith, h .meetable .running .sound .low, product-lift 1 (q .size) (q .cost) (h .meetable .valued) (omega arith))
 
   pub roomless : Roomless a (q .size) (t .size) (t .key) (t .stamp) (t .queue) entry
   roomless =
@@ -126,7 +121,7 @@ module _ {a : Tally} {q : Request} {t : Tables} {entry free events : List ℕ} {
         whole = live .whole;
         sized = λ i b. omega (arith, live .queued .entries i b .inside, run .long .size);
         bytes = meetings.held-bytes run;
-        fits = omega (arith, run .sound .bytes, run .sound .shelf .bytes, h .small, bounded (a .settings) (run .ranged) .capacity .1);
+        fits = omega (arith, run .sound .bytes, meetings.sound (h .meetable) .bytes, h .small, bounded (a .settings) (run .ranged) .capacity .1);
         small = h .small;
         one = meetings.one-place (h .meetable .running);
       }
@@ -203,11 +198,11 @@ module _ {a : Tally} {q : Request} {t : Tables} {entry free events : List ℕ} {
       new-key : newRecord a (q .size) (q .cost) r .key < word
       new-key =
           let made-so : meets a q t ≡ enters a q r t₁ = meetings.small-as (h .meetable) (h .out) (h .small) ∙ enters-as in
-          let z : Small (enters a q r t₁ .state) = subst (λ (x : Served State). Small (x .state)) made-so (meetings.small-after (h .meetable)) in
+          let z : Each (λ r. r .key < word) (enters a q r t₁ .state .shelf) = subst (λ (x : Served State). Each (λ r. r .key < word) (x .state .shelf)) made-so (meetings.keys-after (h .meetable)) in
           let cat : ℕ = a .settings .catalogue .0 in
           let inside : q .file < length (leftIn a r t₁) =
           omega (arith, h .meetable .known, length-without (goneIn a r t₁) (shelfOf cat t₁), shelf-length cat t₁ (h .meetable .running .long .place)) in
-          z .keys (q .file) (newRecord a (q .size) (q .cost) r) (getD-set-same (leftIn a r t₁) (q .file) (kept (newRecord a (q .size) (q .cost) r)) none inside)
+          z (q .file) (newRecord a (q .size) (q .cost) r) (getD-set-same (leftIn a r t₁) (q .file) (kept (newRecord a (q .size) (q .cost) r)) none inside)
 
       pub enterable : Enterable a q r t₁ entry₁ free events at
       enterable =

@@ -5,22 +5,23 @@ use Prim.Native.Nat.{ℕ, suc, _≤_, _<_}
 use native.Mathlib.Omega.{arith}
 use lib.ListN.{length, getD, drop}
 use borrow.Author.Tests.{le-ltb}
-use Rattle.amounts.specs.Limits.{noPlace}
+use Rattle.amounts.specs.Limits.{noPlace, word}
 use Rattle.amounts.specs.Requests.{Request}
 use Rattle.amounts.specs.declared.settings.Settings.{Settings}
 use Rattle.amounts.proofs.Tests.{pick-false}
-use Rattle.method.specs.Shelf.{none, Shelf}
+use Rattle.method.specs.Shelf.{none, Shelf, Each}
 use Rattle.method.specs.Method.{Policy, State, Served, served, missed}
 use Rattle.method.specs.Method as method
-use Rattle.method.specs.Promise.{SoundAt, Small}
+use Rattle.method.specs.Promise.{SoundAt}
 use Rattle.method.specs.declared.outcome.Pass.{Pass}
 use Rattle.method.specs.declared.outcome.Outcome.{Outcome}
 use Rattle.method.specs.declared.outcome.Outcome.the-variants.{Passed}
 use Rattle.method.proofs.Sound.{meet-sound}
-use Rattle.method.proofs.Demand.{sound-small}
+use Rattle.method.proofs.Lifts.{keys-fit, meet-rises}
 use Rattle.tables.specs.Tables.{Tables, slotOf, shelfOf}
 use Rattle.tables.specs.Tally.{storeOf, policyIn, stampOf, stateOf, totalsOf}
 use Rattle.tables.specs.declared.tally.Tally.{Tally}
+use Rattle.tables.proofs.Near.{near}
 use Rattle.tables.proofs.Shelves.{shelf-at, shelf-length, shelf-queue, slot-none}
 use Rattle.shelving.specs.Live.{Live}
 use Rattle.shelving.specs.Evicting.{withQueue}
@@ -56,7 +57,7 @@ module _ {a : Tally} {q : Request} {t : Tables} {entry free events : List ℕ} {
   store = storeOf (a .settings)
 
   pub sound : SoundAt policy store (stateOf a t) (a .requests)
-  sound = h .running .sound .shelf
+  sound = near (h .running .sound)
 
   pub slot : getD shelf (q .file) none ≡ slotOf t (getD (t .place) (q .file) 0)
   slot = shelf-at cat t (q .file) (h .known) (h .running .long .place)
@@ -68,13 +69,13 @@ module _ {a : Tally} {q : Request} {t : Tables} {entry free events : List ℕ} {
   countable = record { few = h .few; agreed = h .running .sound .agreed; valued = h .valued }
 
   -- no key overflows, before the request and after it
-  pub small-before : Small (stateOf a t)
-  small-before = sound-small policy store (stateOf a t) (a .requests) sound (omega (arith, h .few))
+  pub keys-before : Each (λ r. r .key < word) shelf
+  keys-before = keys-fit policy store (a .inflation .0) shelf (stampOf a) (a .requests) sound (omega (arith, h .running .sound .low))
 
-  pub small-after : Small (meets a q t .state)
-  small-after =
-      sound-small policy store _ (suc (a .requests)) (meet-sound policy store (one-place (h .running)) (a .inflation .0) shelf (stampOf a) (a .requests) sound q (h .valued))
-      (omega (arith, h .few))
+  pub keys-after : Each (λ r. r .key < word) (meets a q t .state .shelf)
+  keys-after =
+      keys-fit policy store _ _ _ (suc (a .requests)) (meet-sound policy store (one-place (h .running)) (a .inflation .0) shelf (stampOf a) (a .requests) sound q (h .valued))
+      (omega (arith, h .running .sound .low, meet-rises policy store (a .inflation .0) shelf (stampOf a) (a .requests) sound q (h .valued) .most))
 
   -- a pass, for whatever reason: the queue may stand in another order
   abbrev pub passed : Pass → Served State

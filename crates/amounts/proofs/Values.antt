@@ -2,11 +2,11 @@
 use mathlib.Core.Path.{_≡_}
 use mathlib.Core.Logic.{⊎-elim}
 use mathlib.Core.Bool.{true}
-use Prim.Native.Nat.{ℕ, suc, _+_, _*_, _≤_}
+use Prim.Native.Nat.{ℕ, suc, _+_, _*_, _≤_, _<_}
 use native.Mathlib.Omega.{arith}
 use native.Mathlib.Nat.{div-le-self, le-div-iff-mul-le, mul-le-mul-left, mul-le-mul-right, one-le-mul, one-mul, suc-mul, le-trans}
 use borrow.Author.Tests.{eq-eqb, ne-eqb, leb-true}
-use Rattle.amounts.specs.Limits.{sizeMost, costMost, isSize, isCost}
+use Rattle.amounts.specs.Limits.{sizeMost, costMost, isSize, isCost, frequencyMost, lift}
 use Rattle.amounts.specs.Worth.{scale, worthOf, worthMost, productOf, packets, inForce, Valued}
 use Rattle.amounts.proofs.Tests.{one-to, same, pick-true, pick-false}
 
@@ -27,6 +27,10 @@ product-least f size cost h v = one-le-mul h (worth-least size cost v)
 pub product-most : (f size cost : ℕ) → Valued size cost → productOf f size cost ≤ f * worthMost
 unfolding productOf
 product-most f size cost v = mul-le-mul-left f (worth-most size cost v)
+
+-- document 02, ticket 5: with a frequency in range it is below one lift
+pub product-lift : (f size cost : ℕ) → Valued size cost → f ≤ frequencyMost → productOf f size cost < lift
+product-lift f size cost v h = omega (arith, product-most f size cost v)
 
 -- more frequency, no smaller product; one hit more adds at most the largest worth
 pub product-rises : (f g size cost : ℕ) → f ≤ g → productOf f size cost ≤ productOf g size cost

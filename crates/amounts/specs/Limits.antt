@@ -29,8 +29,17 @@ sizeMost = 16777215
 abbrev pub costMost : ℕ
 costMost = 65535
 
+-- document 02, ticket 5: the most requests of a run
 abbrev pub requestsMost : ℕ
-requestsMost = 1048576
+requestsMost = 4294967295
+
+-- document 02, ticket 5: where frequency stops rising
+abbrev pub frequencyMost : ℕ
+frequencyMost = 1048575
+
+-- document 02, ticket 5: what is taken from L and from every key when L has reached it, 2 to the 60th
+abbrev pub lift : ℕ
+lift = 1152921504606846976
 
 -- document 01, "Tables and the tally": the place of a file that is not kept
 abbrev pub noPlace : ℕ

@@ -2,10 +2,10 @@
 use crate::bytes::Bytes;
 use crate::cost::Cost;
 ghost use mathlib.Core.Path.{_≡_};
-ghost use Prim.Native.Nat.{_+_, _-_, _*_, _<_, _≤_};
+ghost use Prim.Native.Nat.{_+_, _-_, _<_, _≤_};
 ghost use lib.Dec.{leb};
-ghost use Rattle.amounts.specs.Limits.{requestsMost, word};
-ghost use Rattle.amounts.specs.Worth.{worthOf, worthMost, productOf, Valued};
+ghost use Rattle.amounts.specs.Limits.{frequencyMost, word};
+ghost use Rattle.amounts.specs.Worth.{worthOf, productOf, Valued};
 ghost use Rattle.amounts.specs.Order.{lowerOf};
 
 pub struct Key(pub u64);
@@ -13,15 +13,14 @@ pub struct Key(pub u64);
 impl Key {
     pub const SCALE: u64 = 16777216;
 
-    pub const WORTH_MOST: u64 = 1099494850560;
+    // Where frequency stops rising.
+    pub const FREQUENCY_MOST: u64 = 1048575;
 
-    // The most that inflation and keys can come to in so many requests: the largest worth for each.
-    pub fn most(requests: u64) -> Key
-        requires { ⌜ requests ≤ requestsMost ⌝ }
-        ensures { λ r. ⌜ r .0 ≡ requests * worthMost ⌝ }
-    {
-        Key(requests * Key::WORTH_MOST)
-    }
+    // What a lift takes from inflation and from every key.
+    pub const LIFT: u64 = 1152921504606846976;
+
+    // Inflation stays below two lifts.
+    pub const INFLATION_MOST: u64 = 2305843009213693951;
 
     // The key of a file: inflation and what the file adds to it.
     pub fn plus(self, more: Key) -> Key
@@ -58,7 +57,7 @@ pub fn worth(size: Bytes, cost: Cost) -> Key
 // Frequency × worth.
 pub fn product(frequency: u64, size: Bytes, cost: Cost) -> Key
     requires { ⌜ Valued (size .0) (cost .0) ⌝ }
-    requires { ⌜ frequency ≤ requestsMost ⌝ }
+    requires { ⌜ frequency ≤ frequencyMost ⌝ }
     ensures { λ r. ⌜ r .0 ≡ productOf frequency (size .0) (cost .0) ⌝ }
 {
     let w = worth(size, cost);

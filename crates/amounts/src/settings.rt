@@ -109,7 +109,7 @@ impl Catalogue {
 pub struct Requests(pub u64);
 
 impl Requests {
-    pub const MOST: u64 = 1048576;
+    pub const MOST: u64 = 4294967295;
 
     // Whether a run may have served so many.
     pub fn in_range(self) -> bool

@@ -9,21 +9,21 @@ use lib.Dec.{eqb}
 use lib.ListN.{getD}
 use Rattle.card.specs.Card.{Card, done, cardOf, valueOf}
 use Rattle.card.specs.declared.Refusal.{Refusal}
-use Rattle.card.specs.declared.Refusal.the-variants.{Setting, Short, Form, Range, TooMany, Room, Unsound, OtherUnit, TooLong, Line, NoRequests}
+use Rattle.card.specs.declared.Refusal.the-variants.{Setting, Short, Form, Range, TooMany, Room, Unsound, OtherUnit, TooLong, Line, NoRequests, Inexact}
 
 -- the refusals by their numbers, from 1 on
 abbrev pub refusals : ℕ → List Refusal
-refusals v = Setting ∷ Short ∷ Form v ∷ Range v ∷ TooMany ∷ Room ∷ Unsound ∷ OtherUnit ∷ TooLong ∷ Line v ∷ NoRequests ∷ []
+refusals v = Setting ∷ Short ∷ Form v ∷ Range v ∷ TooMany ∷ Room ∷ Unsound ∷ OtherUnit ∷ TooLong ∷ Line v ∷ NoRequests ∷ Inexact ∷ []
 
 -- the refusal on a card
 abbrev pub refusalOn : Card → Refusal
 refusalOn c = getD (refusals (valueOf c)) (c .number - 1) Setting
 
--- a refusal can be read back from its card, and its number is 1 to 11
+-- a refusal can be read back from its card, and its number is 1 to 12
 pub record OnCard (x : Refusal) : Type 0 where
   pub back : refusalOn (cardOf x) ≡ x
   pub least : 1 ≤ cardOf x .number
-  pub most : cardOf x .number ≤ 11
+  pub most : cardOf x .number ≤ 12
 
 pub on-card : (x : Refusal) → OnCard x
 on-card Setting = record { back = refl; least = omega arith; most = omega arith }
@@ -37,6 +37,7 @@ on-card OtherUnit = record { back = refl; least = omega arith; most = omega arit
 on-card TooLong = record { back = refl; least = omega arith; most = omega arith }
 on-card (Line v) = record { back = refl; least = omega arith; most = omega arith }
 on-card NoRequests = record { back = refl; least = omega arith; most = omega arith }
+on-card Inexact = record { back = refl; least = omega arith; most = omega arith }
 
 -- document 01, "Numbers on the red card": 0 is no refusal's number
 pub refusal-not-done : (x : Refusal) → cardOf x .number ≡ 0 → ⊥

@@ -3,7 +3,7 @@ use Prim.Native.Nat.{ℕ}
 use mathlib.Core.List.{List, [], _∷_}
 use lib.ListN.{getD}
 use Rattle.card.specs.declared.Refusal.{Refusal}
-use Rattle.card.specs.declared.Refusal.the-variants.{Setting, Short, Form, Range, TooMany, Room, Unsound, OtherUnit, TooLong, Line, NoRequests}
+use Rattle.card.specs.declared.Refusal.the-variants.{Setting, Short, Form, Range, TooMany, Room, Unsound, OtherUnit, TooLong, Line, NoRequests, Inexact}
 
 -- what a call gives back, in the paper's numbers
 pub record Card : Type 0 where
@@ -30,6 +30,7 @@ cardOf OtherUnit = refused 8 []
 cardOf TooLong = refused 9 []
 cardOf (Line at) = refused 10 (at ∷ [])
 cardOf NoRequests = refused 11 []
+cardOf Inexact = refused 12 []
 
 -- the one value of a refusal, 0 where the paper says "number only"
 abbrev pub valueOf : Card → ℕ

@@ -25,6 +25,8 @@ pub enum Refusal {
     Line(usize),
     // A tally has no requests to make a ratio of.
     NoRequests,
+    // The bytes asked are past what a double has exactly.
+    Inexact,
 }
 
 impl Refusal {
@@ -44,6 +46,7 @@ impl Refusal {
             Refusal::TooLong => 9,
             Refusal::Line(_) => 10,
             Refusal::NoRequests => 11,
+            Refusal::Inexact => 12,
         }
     }
 
@@ -63,6 +66,7 @@ impl Refusal {
             Refusal::OtherUnit => 0,
             Refusal::TooLong => 0,
             Refusal::NoRequests => 0,
+            Refusal::Inexact => 0,
         }
     }
 }

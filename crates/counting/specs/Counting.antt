@@ -1,6 +1,6 @@
 -- The tally with one request more (document 01, "Tables and the tally"). Assumes nothing.
-use Prim.Native.Nat.{ℕ, _+_, _<_}
-use Rattle.amounts.specs.Limits.{requestsMost}
+use Prim.Native.Nat.{ℕ, _+_, _-_, _*_, _<_}
+use Rattle.amounts.specs.Limits.{requestsMost, lift}
 use Rattle.amounts.specs.Worth.{Valued}
 use Rattle.method.specs.Method as method
 use Rattle.method.specs.Shelf.{bytes, files}
@@ -8,9 +8,9 @@ use Rattle.method.specs.Totals.{Totals, counted, Agreed}
 use Rattle.tables.specs.Tally.{totalsOf}
 use Rattle.tables.specs.declared.tally.Tally.{Tally}
 
--- document 01, "Tables and the tally": the tally with the totals y, and with inflation, bytes and files kept
-abbrev pub tallied : Tally → ℕ → ℕ → ℕ → Totals → Tally
-tallied a l b n y =
+-- document 01, "Tables and the tally": the tally with the totals y, and with inflation, bytes and files kept; document 02, ticket 5: and with k lifts
+abbrev pub talliedAt : Tally → ℕ → ℕ → ℕ → ℕ → Totals → Tally
+talliedAt a k l b n y =
     record {
       settings = a .settings;
       inflation = record { 0 = l };
@@ -26,7 +26,16 @@ tallied a l b n y =
       «cost_asked» = record { 0 = y .cost };
       «hit_cost» = record { 0 = y .hitCost };
       dropped = y .dropped;
+      lifts = k;
     }
+
+-- document 01, "Tables and the tally": the same with the lifts that it has, which only a lift changes (document 02, ticket 5)
+abbrev pub tallied : Tally → ℕ → ℕ → ℕ → Totals → Tally
+tallied a l b n y = talliedAt a (a .lifts) l b n y
+
+-- document 02, ticket 5: the tally of a whole state with k lifts: L is whole inflation less the lifts
+abbrev pub wholeTally : Tally → ℕ → method.State → Totals → Tally
+wholeTally a k st y = talliedAt a k (st .inflation - k * lift) (bytes (st .shelf)) (files (st .shelf)) y
 
 -- document 01, "Tables and the tally": the tally after a request
 abbrev pub after : Tally → method.Served method.State → Tally

@@ -1,19 +1,22 @@
 -- A kept file dropped: what the steps ask, and what they leave together. Assumes nothing.
 use mathlib.Core.Path.{_≡_, refl, sym, ap, _∙_, subst, subst₂}
-use mathlib.Core.List.{List}
-use Prim.Native.Nat.{ℕ, _+_, _-_, _≤_, _<_}
+use mathlib.Core.List.{List, map}
+use Prim.Native.Nat.{ℕ, _+_, _-_, _*_, _≤_, _<_}
 use native.Mathlib.Omega.{arith}
 use lib.ListN.{length, getD, set}
+use Rattle.amounts.specs.Limits.{lift}
 use Rattle.amounts.specs.declared.settings.Settings.{Settings}
 use Rattle.queue.specs.Queue.{Holding, Removed}
 use Rattle.queue.proofs.Index.{held-entry}
 use Rattle.method.specs.Shelf.{Kept, none, kept, Shelf, bytes, files}
-use Rattle.method.specs.Promise.{SoundAt}
+use Rattle.method.specs.Promise.{Sound}
+use Rattle.method.specs.Whole.{raise}
 use Rattle.method.specs.Totals.{Agreed}
 use Rattle.method.proofs.Shelves.{kept-lt, sum-at, sum-set-eq}
 use Rattle.method.proofs.Sound.{drop-sound}
+use Rattle.method.proofs.Raising.{raise-set}
 use Rattle.tables.specs.Tables.{Tables, recordAt, shelfOf}
-use Rattle.tables.specs.Tally.{policyIn, storeOf, totalsOf}
+use Rattle.tables.specs.Tally.{policyIn, storeOf, totalsOf, wholeOf}
 use Rattle.tables.specs.declared.tally.Tally.{Tally}
 use Rattle.tables.proofs.Shelves.{shelf-at, shelf-queue, slot-kept}
 use Rattle.shelving.specs.Live.{Live, Stack, Running, beyondOf}
@@ -127,6 +130,10 @@ module _ {a : Tally} {p : ℕ} {t : Tables} {entry free : List ℕ} (h : Standin
           ap (shelfOf cat) lent ∙ all .shelf
           ∙ (λ i. set (shelf-queue cat t₁ t refl refl refl refl refl refl i) (getD (t .file) (r .freed i) 0) none)
 
+      -- with whole keys too
+      whole-less : map (raise (a .lifts * lift)) (shelfOf cat u) ≡ set (wholeOf a t .shelf) file none
+      whole-less = ap (map (raise (a .lifts * lift))) less ∙ sym (raise-set (a .lifts * lift) shelf file none)
+
       past : beyondOf s u ≡ beyondOf s t
       past =
           ap (beyondOf s) lent ∙ beyond-all s n (n - 1) 1 t₁ entry′ (omega (arith, some)) live₁
@@ -156,12 +163,13 @@ module _ {a : Tally} {p : ℕ} {t : Tables} {entry free : List ℕ} (h : Standin
                 record {
                   agreed = agreed;
                   few = w .sound .few;
+                  low = w .sound .low;
                   linked = live₂ .linked;
                   queued = live₂ .queued;
                   ordered = live₂ .whole .ordered;
                   shelf =
-                      subst (λ (x : Shelf). SoundAt (policyIn s) (storeOf s) (record { inflation = a .inflation .0; shelf = x; stamp = a .requests }) (a .requests)) (sym less)
-                      (drop-sound (policyIn s) (storeOf s) (a .inflation .0) shelf (a .requests) (a .requests) (w .sound .shelf) file);
+                      subst (λ (x : Shelf). Sound (policyIn s) (storeOf s) (wholeOf a t .inflation) x (a .requests) (a .requests)) (sym whole-less)
+                      (drop-sound (policyIn s) (storeOf s) (wholeOf a t .inflation) (wholeOf a t .shelf) (a .requests) (a .requests) (w .sound .shelf) file);
                   files = ap files less ∙ fewer;
                   bytes = ap bytes less ∙ lighter;
                 };

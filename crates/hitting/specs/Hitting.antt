@@ -1,9 +1,9 @@
 -- A hit, at the tables that it reads and writes (document 01, "The run"). Assumes nothing.
 use mathlib.Core.Path.{_≡_}
 use mathlib.Core.List.{List}
-use Prim.Native.Nat.{ℕ, _+_, _<_}
+use Prim.Native.Nat.{ℕ, _+_, _≤_, _<_}
 use lib.ListN.{length, getD, set}
-use Rattle.amounts.specs.Limits.{requestsMost, word}
+use Rattle.amounts.specs.Limits.{frequencyMost, word}
 use Rattle.amounts.specs.Worth.{Valued, productOf}
 use Rattle.queue.specs.Queue.{Holding, Rekeyed}
 use Rattle.method.specs.Method.{again}
@@ -26,7 +26,7 @@ pub record Hittable (a : Tally) (p : ℕ) (size cost freq keys stamps queue entr
   pub counted : p < length freq
   pub entered : p < length entry
   pub valued : Valued (getD size p 0) (getD cost p 0)
-  pub few : getD freq p 0 < requestsMost
+  pub seldom : getD freq p 0 ≤ frequencyMost
   pub fits : keyAfter a size cost freq p < word
   pub holding : Holding queue entry keys stamps (a .«files_kept») (getD entry p 0)
   pub countable : Countable a (getD size p 0) (getD cost p 0)

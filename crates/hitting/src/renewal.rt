@@ -1,25 +1,26 @@
 // A hit: the kept file's key is set anew, and its queue entry moves to where it then belongs.
 use amounts::Bytes;
 use amounts::Cost;
+use amounts::Key;
 use amounts::Policy;
 use shelving::wide16;
 use shelving::wide32;
 use tables::Tally;
 ghost use mathlib.Core.Path.{_≡_};
-ghost use Prim.Native.Nat.{_<_};
-ghost use Rattle.amounts.specs.Limits.{requestsMost};
 ghost use Rattle.method.specs.Method as method;
 ghost use Rattle.hitting.specs.Hitting.{Hittable, HitDone};
 
-// The frequency after a hit: policy 1 does not count.
+// The frequency after a hit: policy 1 does not count, and at its limit it stops rising.
 fn again(policy: Policy, frequency: u64) -> u64
-    requires { ⌜ frequency < requestsMost ⌝ }
     ensures { λ r. ⌜ r ≡ method.again (method.policyOf (policy .0)) frequency ⌝ }
 {
     if policy.without_frequency() {
         return 1;
     }
-    frequency + 1
+    if frequency < Key::FREQUENCY_MOST {
+        return frequency + 1;
+    }
+    frequency
 }
 
 // A hit on the file at place p.

@@ -3,10 +3,10 @@ use mathlib.Core.Path.{_≡_, refl, sym, ap, _∙_, subst}
 use mathlib.Core.Logic.{inl, inr, ⊎-elim}
 use mathlib.Core.Bool.{Bool, false, true≢false}
 use mathlib.Core.List.{List, []}
-use Prim.Native.Nat.{ℕ, _≤_, _<_}
+use Prim.Native.Nat.{ℕ, _*_, _≤_, _<_}
 use native.Mathlib.Omega.{arith}
 use lib.ListN.{length, getD}
-use Rattle.amounts.specs.Limits.{noPlace, placesMost}
+use Rattle.amounts.specs.Limits.{lift, noPlace, placesMost}
 use Rattle.amounts.specs.declared.settings.Settings.{Settings}
 use Rattle.amounts.proofs.Tests.{same, below}
 use Rattle.queue.specs.Queue.{times, Ordered, Readable}
@@ -14,12 +14,14 @@ use Rattle.queue.proofs.Totals.{Found, times-found}
 use Rattle.queue.proofs.Index.{times-own, distinct}
 use Rattle.method.specs.Shelf.{Kept, none, kept, Shelf}
 use Rattle.method.specs.Promise as promise
-use Rattle.method.proofs.Shelves.{none-kept, kept-lt, sum-at}
+use Rattle.method.proofs.Shelves.{none-kept, kept-lt}
+use Rattle.method.proofs.Raising.{near-total, whole-sound}
 use Rattle.tables.specs.Tables.{Tables, recordAt, slotOf, shelfOf}
-use Rattle.tables.specs.Tally.{policyIn}
+use Rattle.tables.specs.Tally.{storeOf, policyIn, stateOf}
 use Rattle.tables.specs.Below.{sumBelow}
 use Rattle.tables.specs.Sound.{At, Occupied, Rest, Sound, Spare, Desk, Verdict}
 use Rattle.tables.specs.declared.tally.Tally.{Tally}
+use Rattle.tables.proofs.Near.{near}
 use Rattle.tables.proofs.Ranges.{bounded}
 use Rattle.tables.proofs.Shelves.{slot-none, slot-kept, shelf-length, shelf-at}
 use Rattle.tables.proofs.Counting.{sum-below-same, held-together}
@@ -55,10 +57,10 @@ module _ (a : Tally) (t : Tables) where
   -- ---- what soundness says to each pass
 
   pub sound-numbers : Sound a t → Numbers a
-  sound-numbers h = record { few = h .few; agreed = h .agreed }
+  sound-numbers h = record { few = h .few; low = h .low; agreed = h .agreed }
 
   pub sound-few : Sound a t → n ≤ P
-  sound-few h = omega (arith, h .files, h .shelf .files)
+  sound-few h = omega (arith, h .files, near h .files)
 
   module _ (few : n ≤ placesMost) (entry : List ℕ) (x : Index s n t entry) where
     -- a place that is held is in the index
@@ -96,7 +98,13 @@ module _ (a : Tally) (t : Tables) where
     pub sound-filed : Sound a t → Filed a t
     sound-filed h = record {
       lawful = λ f l. ⊎-elim (λ e. inl e) (λ o. inr (o, right o)) (h .linked .out f l);
-      balanced = record { files = h .files; bytes = h .bytes; fits = omega (arith, h .bytes, h .shelf .bytes); freqs = h .shelf .freqs; total = h .shelf .total };
+      balanced = record {
+        files = h .files;
+        bytes = h .bytes;
+        fits = omega (arith, h .bytes, near h .bytes);
+        freqs = near h .freqs;
+        total = near-total (policyIn s) (storeOf s) (a .lifts * lift) (stateOf a t) (a .requests) (h .shelf);
+      };
     }
       where
         right : {f p : ℕ} → At s t f p → Right (policyIn s) (a .inflation .0) (a .requests) (recordAt t p)
@@ -104,17 +112,16 @@ module _ (a : Tally) (t : Tables) where
             let r : Kept = recordAt t p in
             let e : getD shelf f none ≡ kept r = slot-at o in
             record {
-              fine = h .shelf .fine f r e;
-              few = omega (arith, sum-at (λ q. q .freq) shelf f r e, h .shelf .freqs);
-              stamp = h .shelf .stamps f r e;
-              key-least = h .shelf .keys f r e .0;
-              key-most = h .shelf .keys f r e .1;
+              fine = near h .fine f r e;
+              stamp = near h .stamps f r e;
+              key-least = near h .keys f r e .0;
+              key-most = near h .keys f r e .1;
             }
 
     pub sound-own : (entry : List ℕ) → Index s n t entry → Sound a t → Own (t .queue) (t .stamp) n
     sound-own entry x h i j l m e =
         let o = x .entries i l in let u = x .entries j m in
-        let d = h .shelf .apart _ _ _ _ (slot-at o) (slot-at u) e in
+        let d = near h .apart _ _ _ _ (slot-at o) (slot-at u) e in
         distinct (t .queue) entry n (x .indexed) i j l m (sym (o .place) ∙ ap (λ (v : ℕ). getD (t .place) v 0) d ∙ u .place)
 
     -- ---- all passes together
@@ -157,24 +164,28 @@ module _ (a : Tally) (t : Tables) where
               let p = own-place (t .stamp) own (found (k .at)) (found (m .at)) (ap (λ (y : Kept). y .stamp) (k .is) ∙ h ∙ ap (λ (y : Kept). y .stamp) (sym (m .is))) in
               sym (k .at .file) ∙ ap (λ (y : ℕ). getD (t .file) y 0) p ∙ m .at .file
 
+      made-near : promise.SoundAt (policyIn s) (storeOf s) (stateOf a t) (a .requests)
+      made-near = record {
+        slots = shelf-length C t long;
+        bytes = omega (arith, v .balanced .bytes, v .balanced .fits);
+        files = omega (arith, v .balanced .files);
+        fine = λ i r e. known i r e .right .fine;
+        stamps = λ i r e. known i r e .right .stamp;
+        apart = apart;
+        freqs = v .balanced .freqs;
+        keys = λ i r e. (known i r e .right .key-least, known i r e .right .key-most);
+        total = omega (arith, v .balanced .total);
+      }
+
       pub sound-made : Sound a t
       sound-made = record {
         agreed = num .agreed;
         few = num .few;
+        low = num .low;
         linked = record { out = λ f l. ⊎-elim (λ e. inl e) (λ o. inr (o .0)) (v .lawful f l); unused = u .unused };
         queued = record { entries = x .entries; once = held-once; rest = rest };
         ordered = ord;
-        shelf = record {
-          slots = shelf-length C t long;
-          bytes = omega (arith, v .balanced .bytes, v .balanced .fits);
-          files = omega (arith, v .balanced .files);
-          fine = λ i r e. known i r e .right .fine;
-          stamps = λ i r e. known i r e .right .stamp;
-          apart = apart;
-          freqs = v .balanced .freqs;
-          keys = λ i r e. (known i r e .right .key-least, known i r e .right .key-most);
-          total = v .balanced .total;
-        };
+        shelf = whole-sound (policyIn s) (storeOf s) (a .lifts * lift) (stateOf a t) (a .requests) made-near (v .balanced .total);
         files = v .balanced .files;
         bytes = v .balanced .bytes;
       }

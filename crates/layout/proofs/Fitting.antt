@@ -66,7 +66,7 @@ events-short : (es : List ℕ) → length (eventLines es) ≤ 12 * length es
 events-short [] = omega arith
 events-short (e ∷ es) = omega (arith, length-append (eventLine e) (eventLines es), event-short e, events-short es)
 
-page-short : (a : Tally) (es : List ℕ) → length (page a es) ≤ 12 * length es + 400
+page-short : (a : Tally) (es : List ℕ) → length (page a es) ≤ 12 * length es + 413
 unfolding page
 page-short a es =
     simp length-append
@@ -84,6 +84,7 @@ page-short a es =
       item-short word.hitbytes (a .«hit_bytes» .0) lineFeed 8 (omega arith),
       item-short word.cost (a .«cost_asked» .0) space 4 (omega arith),
       item-short word.hitcost (a .«hit_cost» .0) lineFeed 7 (omega arith),
+      item-short word.lifts (a .lifts) space 5 (omega arith),
       item-short word.inflation (a .inflation .0) space 1 (omega arith),
       item-short word.used (a .«bytes_kept» .0) space 4 (omega arith),
       item-short word.files (a .«files_kept») lineFeed 5 (omega arith),

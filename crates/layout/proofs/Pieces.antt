@@ -9,6 +9,7 @@ use Rattle.method.specs.Shelf.{sum, lowest}
 use Rattle.method.specs.Method.{run, step, clear, admit}
 use Rattle.method.specs.Events.{events}
 use Rattle.method.specs.Totals.{totals}
+use Rattle.method.specs.Whole.{lifted, liftsOf}
 use Rattle.trace.specs.Reading.{readOf, settingsOf}
 use Rattle.trace.proofs.Pieces.{sheet}
 use Rattle.lines.specs.Decimal.{decimal}
@@ -16,7 +17,7 @@ use Rattle.lines.specs.Words.{ascii}
 use Rattle.layout.specs.Sheet.{sheetOf}
 use Rattle.lines.specs.Lines.{item, kindWord, page}
 
--- document 01, "The sheet": what is printed for the hex bytes; document 02, ticket 2: `dropped` ends the line of the counts
+-- document 01, "The sheet": what is printed for the hex bytes; document 02, ticket 2: `dropped` ends the line of the counts; ticket 5: the last line begins with the lifts
 abbrev printed : List ℕ
 printed =
     ascii "unit 7\n"
@@ -31,10 +32,10 @@ printed =
     ++ ascii "requests 6 hits 1 admitted 4 passed 1 evicted 2 dropped 0\n"
     ++ ascii "bytes 336 hitbytes 64\n"
     ++ ascii "cost 12 hitcost 4\n"
-    ++ ascii "L 1048576 used 48 files 2\n"
+    ++ ascii "lifts 0 L 1048576 used 48 files 2\n"
 
 pub example : sheetOf sheet ≡ printed
-unfolding worthOf productOf packets inForce lowerOf oneTo run events totals step admit clear lowest sum readOf settingsOf decimal item kindWord page sheetOf
+unfolding worthOf productOf packets inForce lowerOf oneTo run lifted liftsOf events totals step admit clear lowest sum readOf settingsOf decimal item kindWord page sheetOf
 example = refl
 
 -- document 02, ticket 2: the trace of the recut among the bench pieces; file 1 is cut anew, so `stale 1` stands before `evict 2`
@@ -54,10 +55,10 @@ recutPrinted =
     ++ ascii "requests 4 hits 1 admitted 3 passed 0 evicted 1 dropped 1\n"
     ++ ascii "bytes 256 hitbytes 80\n"
     ++ ascii "cost 15 hitcost 5\n"
-    ++ ascii "L 524288 used 80 files 1\n"
+    ++ ascii "lifts 0 L 524288 used 80 files 1\n"
 
 pub recut : sheetOf recutTrace ≡ recutPrinted
-unfolding worthOf productOf packets inForce lowerOf oneTo run events totals step admit clear lowest sum readOf settingsOf decimal item kindWord page sheetOf
+unfolding worthOf productOf packets inForce lowerOf oneTo run lifted liftsOf events totals step admit clear lowest sum readOf settingsOf decimal item kindWord page sheetOf
 recut = refl
 
 -- a needless 0 in the unit; no bytes; policy 3 before 513 places; 513 places before a file out of range; a file out of range; a size of 0 before a number cut short

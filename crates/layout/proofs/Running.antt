@@ -14,6 +14,7 @@ use Rattle.amounts.specs.declared.settings.Settings.{Settings}
 use Rattle.card.specs.Card.{done}
 use Rattle.card.specs.declared.Refusal.the-variants.{Range}
 use Rattle.method.specs.Method.{State, Run, run, step, fresh}
+use Rattle.method.specs.Whole.{liftsOf}
 use Rattle.method.proofs.Runs.{events-length}
 use Rattle.method.proofs.Sound.{fresh-sound, fresh-files}
 use Rattle.trace.specs.Fields.{Field, val, off, field, onVal, isFile}
@@ -21,8 +22,8 @@ use Rattle.trace.specs.Reading.{Read, good, stop, push, requests, readOf, rows}
 use Rattle.trace.specs.declared.answer.Answer.the-variants.{Done, Refused}
 use Rattle.trace.proofs.OneAnswer.{answer-one}
 use Rattle.trace.proofs.Ranges.{settled as fields}
-use Rattle.tables.specs.Tables.{Tables, tables, Long, isLong, cleared, shelfOf}
-use Rattle.tables.specs.Tally.{storeOf, policyIn, stateOf, freshTally}
+use Rattle.tables.specs.Tables.{Tables, tables, Long, isLong, cleared}
+use Rattle.tables.specs.Tally.{storeOf, policyIn, wholeOf, freshTally}
 use Rattle.tables.specs.Start.{long, Freshly}
 use Rattle.tables.specs.declared.start.Started.{Started}
 use Rattle.tables.specs.declared.start.Started.the-variants as started
@@ -30,13 +31,13 @@ use Rattle.tables.specs.declared.tally.Tally.{Tally}
 use Rattle.tables.proofs.Lengths.{long-last}
 use Rattle.tables.proofs.Lists.{length-filled}
 use Rattle.tables.proofs.Ranges.{bounded}
-use Rattle.tables.proofs.Shelves.{fresh-shelf}
+use Rattle.tables.proofs.Near.{fresh-whole}
 use Rattle.tables.proofs.Twins.{fresh-done, freshly-sound}
-use Rattle.parts.specs.Parts.{runFrom, tallyOf, eventsOf}
+use Rattle.parts.specs.Parts.{runFrom, liftsFrom, tallyOf, eventsOf}
 use Rattle.refusing.specs.Judging.{fittingRead, fitting, settled}
 use Rattle.replay.specs.Carrying.{Runs, Answers, Judges, Carries}
 use Rattle.replay.specs.declared.carry.Carried.{Carried}
-use Rattle.layout.specs.Sheet.{ownPlaces, ownCatalogue, runOf, ranEvents}
+use Rattle.layout.specs.Sheet.{ownPlaces, ownCatalogue, runOf, ranLifts, ranEvents}
 use Rattle.layout.specs.Steps.{OwnSized, RanOn, Ran}
 
 -- ---- no part has more requests than bytes
@@ -98,18 +99,21 @@ module _ (s : Settings) (part told : List ℕ) (h : OwnSized s part told) (t : T
   long-after = ap (long s) (begun .1) ∙ long-is _ _ _ (long-cleared _ _ t k)
 
   -- the tables stand for the state of a fresh start
-  fresh-state : stateOf (freshTally s) u ≡ fresh (storeOf s)
-  fresh-state = let e = ap (shelfOf (s .catalogue .0)) (begun .1) ∙ fresh-shelf (s .places .0) (s .catalogue .0) t in λ i. record { inflation = 0; shelf = e i; stamp = 0 }
+  fresh-state : wholeOf (freshTally s) u ≡ fresh (storeOf s)
+  fresh-state = ap (wholeOf (freshTally s)) (begun .1) ∙ fresh-whole s t
 
   fresh-run : (qs : List Request) → runFrom (freshTally s) u qs ≡ runOf s qs
   fresh-run qs = ap (λ (st : State). run (step (policyIn s) (storeOf s)) st qs) fresh-state
+
+  fresh-lifts : (qs : List Request) → liftsFrom (freshTally s) u qs ≡ ranLifts s qs
+  fresh-lifts qs = ap (λ (st : State). liftsOf (step (policyIn s) (storeOf s)) 0 st qs) fresh-state
 
   module _ (r : Carried) (w : Tables) (told′ : List ℕ) where
     ran-good : (qs : List Request) → Runs qs (freshTally s) u told r w told′ → RanOn s told r told′ (good qs)
     ran-good qs x =
         let e = fresh-run qs in (
           answer-one (r .answer) (Done (length (ranEvents s qs))) (x .answer ∙ ap (λ (y : Run State). done (length (eventsOf qs y) ∷ [])) e),
-          x .tally ∙ ap (tallyOf (freshTally s)) e,
+          x .tally ∙ (λ i. tallyOf (freshTally s) (fresh-lifts qs i) (e i)),
           x .written ∙ ap (λ (y : Run State). sets told 0 (eventsOf qs y)) e,
         )
 

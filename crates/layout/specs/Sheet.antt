@@ -10,6 +10,7 @@ use Rattle.amounts.specs.declared.settings.Settings.{Settings}
 use Rattle.card.specs.Card.{cardOf}
 use Rattle.method.specs.Method.{State, Run, run, step, fresh}
 use Rattle.method.specs.Events.{events}
+use Rattle.method.specs.Whole.{liftsOf}
 use Rattle.trace.specs.Reading.{Read, good, stop, readOf, Opened, opened, shut, settingsOf}
 use Rattle.tables.specs.Tally.{storeOf, policyIn, freshTally}
 use Rattle.tables.specs.declared.tally.Tally.{Tally}
@@ -33,9 +34,9 @@ ownCatalogue = 4096
 abbrev pub ownEvents : ℕ
 ownEvents = 32768
 
--- no sheet is longer (`sheet-fits`): 12 bytes an event, 400 for the other lines
+-- no sheet is longer (`sheet-fits`): 12 bytes an event, 413 for the other lines
 abbrev pub sheetMost : ℕ
-sheetMost = 393616
+sheetMost = 393629
 
 -- ---- The sheet of a trace
 
@@ -43,9 +44,13 @@ sheetMost = 393616
 abbrev pub runOf : Settings → List Request → Run State
 runOf s qs = run (step (policyIn s) (storeOf s)) (fresh (storeOf s)) qs
 
+-- document 02, ticket 5: its lifts
+abbrev pub ranLifts : Settings → List Request → ℕ
+ranLifts s qs = liftsOf (step (policyIn s) (storeOf s)) 0 (fresh (storeOf s)) qs
+
 -- document 01, "Tables and the tally" and "Event list": its tally and its events
 abbrev pub ranTally : Settings → List Request → Tally
-ranTally s qs = tallyOf (freshTally s) (runOf s qs)
+ranTally s qs = tallyOf (freshTally s) (ranLifts s qs) (runOf s qs)
 
 abbrev pub ranEvents : Settings → List Request → List ℕ
 ranEvents s qs = events qs (runOf s qs .replies)

@@ -22,7 +22,7 @@ pub const INPUT_MOST: usize = 16384;
 // Two events a request, and no trace has more requests than bytes.
 const OWN_EVENTS: usize = 32768;
 // No sheet is longer.
-pub const SHEET_MOST: usize = 393616;
+pub const SHEET_MOST: usize = 393629;
 
 // The line of a refusal, over the front of a text; its length.
 fn put_refused(number: u64, text: &mut [u8]) -> usize

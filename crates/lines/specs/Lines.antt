@@ -1,4 +1,4 @@
--- The lines of the sheet (document 01, "The sheet"; document 02, ticket 2). Assumes nothing.
+-- The lines of the sheet (document 01, "The sheet"; document 02, tickets 2 and 5). Assumes nothing.
 use Prim.Native.Nat.{ℕ, _/_, _%_}
 use mathlib.Core.List.{List, [], _∷_, _++_}
 use lib.Dec.{eqb}
@@ -51,9 +51,11 @@ bytesLine a = askedLine word.bytes (a .«bytes_asked» .0) word.hitbytes (a .«h
 abbrev pub costLine : Tally → List ℕ
 costLine a = askedLine word.cost (a .«cost_asked» .0) word.hitcost (a .«hit_cost» .0)
 
--- document 01, "The sheet": the last line gives inflation, bytes kept and files kept
+-- document 01, "The sheet": the last line gives inflation, bytes kept and files kept; document 02, ticket 5: it begins `lifts N L`
 abbrev pub lastLine : Tally → List ℕ
-lastLine a = item word.inflation (a .inflation .0) space ++ (item word.used (a .«bytes_kept» .0) space ++ item word.files (a .«files_kept») lineFeed)
+lastLine a =
+    item word.lifts (a .lifts) space
+    ++ (item word.inflation (a .inflation .0) space ++ (item word.used (a .«bytes_kept» .0) space ++ item word.files (a .«files_kept») lineFeed))
 
 -- document 01, "The sheet": the lines in their order
 unfoldable pub page : Tally → List ℕ → List ℕ

@@ -75,6 +75,10 @@ cost = ascii "cost"
 abbrev pub hitcost : List ℕ
 hitcost = ascii "hitcost"
 
+-- document 02, ticket 5: the tally's lifts
+abbrev pub lifts : List ℕ
+lifts = ascii "lifts"
+
 -- document 01, "The sheet": inflation, bytes kept and files kept
 abbrev pub inflation : List ℕ
 inflation = ascii "L"

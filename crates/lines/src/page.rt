@@ -49,7 +49,8 @@ fn put_last(a: Tally, out: &mut [u8], at: usize) -> usize
     requires { ⌜ Roomy (lastLine a) at (now out) ⌝ }
     ensures { λ r. ⌜ Laid (lastLine a) at (now (out .entry)) (now (out .exit)) r ⌝ }
 {
-    let at_used = put_item(b"L", a.inflation.0, b' ', out, at);
+    let at_inflation = put_item(b"lifts", a.lifts, b' ', out, at);
+    let at_used = put_item(b"L", a.inflation.0, b' ', out, at_inflation);
     let at_files = put_item(b"used", a.bytes_kept.0, b' ', out, at_used);
     put_item(b"files", a.files_kept, b'\n', out, at_files)
 }

@@ -4,8 +4,11 @@ pub mod Room
 pub mod Cases
 pub mod Counts
 pub mod Sound
+pub mod Raising
+pub mod Lifts
 pub mod Credits
 pub mod Agreement
 pub mod Runs
 pub mod Recuts
 pub mod Demand
+mod AtLimit

@@ -1,11 +1,14 @@
 -- What holds after every request, for both policies: `Sound`, from any sound state and from a fresh start. Assumes nothing.
 use mathlib.Core.Path.{_≡_, refl, sym, _∙_, subst}
 use mathlib.Core.Logic.{_⊎_, inl, inr, ⊎-elim}
+use mathlib.Core.Bool.{Bool, true, false}
 use mathlib.Core.List.{List, [], _∷_}
 use Prim.Native.Nat.{ℕ, zero, suc, _+_, _*_, _≤_, _<_}
 use native.Mathlib.Omega.{arith}
+use lib.Dec.{ltb}
+use borrow.Author.Tests.{ltb-true}
 use lib.ListN.{length, getD, set, replicate, length-set, length-replicate}
-use Rattle.amounts.specs.Limits.{placesMost}
+use Rattle.amounts.specs.Limits.{pick, placesMost, frequencyMost}
 use Rattle.amounts.specs.Worth.{productOf, worthMost, Valued}
 use Rattle.amounts.specs.Requests.{Request, resolved, Ranged, AllRanged}
 use Rattle.amounts.proofs.Tests.{one-to}
@@ -83,18 +86,26 @@ held-put p k b b′ t n n′ l s i size cost f h v w d =
 
 again-le : (p : Policy) (f : ℕ) → again p f ≤ suc f
 again-le gds f = omega arith
-again-le gdsf f = omega arith
+again-le gdsf f = go (ltb f frequencyMost)
+  where
+    go : (b : Bool) → pick b (suc f) f ≤ suc f
+    go true = omega arith
+    go false = omega arith
 
 again-fine : (p : Policy) (l t : ℕ) (r : Kept) → Fine p r → Fine p (keyed l (r .size) (r .cost) (again p (r .freq)) t)
-again-fine gds l t r h = record { valued = h .valued; freq = omega arith; once = refl }
-again-fine gdsf l t r h = record { valued = h .valued; freq = omega arith; once = tt }
+again-fine gds l t r h = record { valued = h .valued; freq = omega arith; seldom = omega arith; once = refl }
+again-fine gdsf l t r h = go (ltb (r .freq) frequencyMost) refl
+  where
+    go : (b : Bool) → ltb (r .freq) frequencyMost ≡ b → Fine gdsf (keyed l (r .size) (r .cost) (pick b (suc (r .freq)) (r .freq)) t)
+    go true e = record { valued = h .valued; freq = omega arith; seldom = omega (arith, ltb-true (r .freq) frequencyMost e); once = tt }
+    go false e = record { valued = h .valued; freq = h .freq; seldom = h .seldom; once = tt }
 
 once-one : (p : Policy) → Once p 1
 once-one gds = refl
 once-one gdsf = tt
 
 new-fine : (p : Policy) (l t : ℕ) (q : Request) → Valued (q .size) (q .cost) → Fine p (keyed l (q .size) (q .cost) 1 t)
-new-fine p l t q v = record { valued = v; freq = omega arith; once = once-one p }
+new-fine p l t q v = record { valued = v; freq = omega arith; seldom = omega arith; once = once-one p }
 
 -- ---- a request
 
@@ -188,15 +199,16 @@ drop-sound p c l s t n h i =
       total = omega (arith, sum-set product s i none, h .total);
     }
 
+-- and so is what the old copy leaves
+pub left-sound : (p : Policy) (c : Settings) (st : State) (n : ℕ) → SoundAt p c st n → (q : Request) → Sound p c (st .inflation) (left (st .shelf) (q .file) (q .size)) (st .stamp) n
+left-sound p c st n h q =
+    old-by (st .shelf) (q .file) (q .size) (λ _ s. Sound p c (st .inflation) s (st .stamp) n) h (λ _ _ _. drop-sound p c (st .inflation) (st .shelf) (st .stamp) n h (q .file))
+
 pub step-sound : (p : Policy) (c : Settings) → 1 ≤ c .places → (st : State) (n : ℕ) → SoundAt p c st n → (q : Request) → Ranged (c .catalogue) q
     → SoundAt p c (step p c st q .state) (suc n)
 unfolding step
 step-sound p c one st n h q w =
-    let l : ℕ = st .inflation in
-    let t : ℕ = st .stamp in
-    let k : Sound p c l (left (st .shelf) (q .file) (q .size)) t n =
-    old-by (st .shelf) (q .file) (q .size) (λ _ s. Sound p c l s t n) h (λ _ _ _. drop-sound p c l (st .shelf) t n h (q .file)) in
-    meet-sound p c one l (left (st .shelf) (q .file) (q .size)) t n k (resolved q) (resolved-valued (c .catalogue) q w)
+    meet-sound p c one (st .inflation) (left (st .shelf) (q .file) (q .size)) (st .stamp) n (left-sound p c st n h q) (resolved q) (resolved-valued (c .catalogue) q w)
 
 -- ---- a run, from any sound state and from a fresh start
 

@@ -4,7 +4,7 @@ use mathlib.Core.List.{List, [], _∷_}
 use Prim.Native.Nat.{ℕ, zero, suc, _+_}
 use lib.Dec.{leb, ltb, eqb}
 use lib.ListN.{length, getD, set, replicate}
-use Rattle.amounts.specs.Limits.{pick}
+use Rattle.amounts.specs.Limits.{pick, frequencyMost}
 use Rattle.amounts.specs.Worth.{productOf}
 use Rattle.amounts.specs.Requests.{Request, resolved}
 use Rattle.method.specs.Shelf.{Kept, Slot, none, kept, Shelf, bytes, files, Found, nothing, at, lowest}
@@ -103,10 +103,10 @@ keyed l size cost f t = record { size = size; cost = cost; freq = f; key = l + p
 abbrev pub newcomer : ℕ → Request → ℕ → Slot
 newcomer l q t = kept (keyed l (q .size) (q .cost) 1 t)
 
--- document 01, "The run": the frequency after a hit is always 1 for policy 1, one more for policy 2
+-- document 01, "The run": the frequency after a hit is always 1 for policy 1, one more for policy 2; it stops rising at its limit (document 02, ticket 5)
 abbrev pub again : Policy → ℕ → ℕ
 again gds f = 1
-again gdsf f = suc f
+again gdsf f = pick (ltb f frequencyMost) (suc f) f
 
 -- document 01, "The run": a hit on what is kept sets its key anew; L stays
 abbrev pub hit : Policy → ℕ → Shelf → ℕ → ℕ → Kept → Served State

@@ -4,13 +4,14 @@ use mathlib.Core.Bool.{true}
 use mathlib.Core.List.{List, map}
 use Prim.Native.Nat.{ℕ, _+_, _*_, _≤_, _<_}
 use lib.ListN.{length, getD}
-use Rattle.amounts.specs.Limits.{isCapacity, isPlaces, isCatalogue, requestsMost, word}
+use Rattle.amounts.specs.Limits.{isCapacity, isPlaces, isCatalogue, frequencyMost, lift, word}
 use Rattle.amounts.specs.Worth.{Valued, worthMost}
 use Rattle.amounts.specs.Requests.{Request, AllRanged}
 use Rattle.method.specs.Shelf.{Kept, Slot, none, kept, Shelf, sum, bytes, files, product, Each}
 use Rattle.method.specs.Method.{Policy, gds, gdsf, Settings, Gone, Reply, State, Run, run, step, fresh}
 use Rattle.method.specs.Events.{events}
 use Rattle.method.specs.Totals.{totals, zeros, Agreed}
+use Rattle.method.specs.Whole.{liftsOf}
 use Rattle.method.specs.Credit.{Ledger, less, stepC, freshC}
 
 -- document 01, "Numbers": capacity, places and catalogue in range
@@ -32,6 +33,8 @@ Once gdsf f = Unit {0}
 pub record Fine (p : Policy) (r : Kept) : Type 0 where
   pub valued : Valued (r .size) (r .cost)
   pub freq : 1 ≤ r .freq
+  -- document 02, ticket 5: where frequency stops rising
+  pub seldom : r .freq ≤ frequencyMost
   pub once : Once p (r .freq)
 
 -- what holds at inflation l, shelf s and stamp t after n requests
@@ -52,10 +55,11 @@ pub record Sound (p : Policy) (c : Settings) (l : ℕ) (s : Shelf) (t n : ℕ) :
 abbrev pub SoundAt : Policy → Settings → State → ℕ → Type 0
 SoundAt p c st n = Sound p c (st .inflation) (st .shelf) (st .stamp) n
 
--- nothing overflows: inflation, with all products, and every key stay below the word
-pub record Small (st : State) : Type 0 where
-  pub inflation : st .inflation + sum product (st .shelf) < word
-  pub keys : Each (λ r. r .key < word) (st .shelf)
+-- nothing overflows: less the lifts, inflation stays below 2 to the 61st (document 02, ticket 5) and every key below the word
+pub record Small (lifts : ℕ) (st : State) : Type 0 where
+  pub taken : lifts * lift ≤ st .inflation
+  pub inflation : st .inflation < (lifts + 2) * lift
+  pub keys : Each (λ r. r .key < lifts * lift + word) (st .shelf)
 
 -- what was kept of a file but for the key, which is a credit in the plain method
 abbrev pub keyless : Kept → Kept
@@ -82,7 +86,7 @@ pub record SameAsCredit (x : Run State) (y : Run Ledger) : Type 0 where
 pub record Held (p : Policy) (c : Settings) (qs : List Request) (x : Run State) (y : Run Ledger) : Type 0 where
   pub sound : SoundAt p c (x .state) (length qs)
   pub stamp : x .state .stamp ≡ length qs
-  pub small : length qs ≤ requestsMost → Small (x .state)
+  pub small : Small (liftsOf (step p c) 0 (fresh c) qs) (x .state)
   pub credit : SameAsCredit x y
   pub agreed : Agreed (files (x .state .shelf)) (totals zeros (x .replies))
   pub counted : totals zeros (x .replies) .requests ≡ length qs

@@ -4,9 +4,9 @@ use mathlib.Core.Bool.{true}
 use mathlib.Core.List.{List, [], _∷_, _++_}
 use Prim.Native.Nat.{ℕ, suc, _+_, _-_, _*_, _≤_, _<_}
 use native.Mathlib.Omega.{arith}
-use lib.ListN.{length, set, drop, length-append}
+use lib.ListN.{length, set, drop, length-append, length-map}
 use lib.Seq.{sets, length-sets}
-use Rattle.amounts.specs.Limits.{requestsMost, catalogueMost, isCatalogue, isSize, isCost}
+use Rattle.amounts.specs.Limits.{requestsMost, lift, catalogueMost, isCatalogue, isSize, isCost}
 use Rattle.amounts.specs.Settings.{inRange}
 use Rattle.amounts.specs.Requests.{Request, Ranged}
 use Rattle.amounts.specs.declared.settings.Settings.{Settings}
@@ -15,25 +15,26 @@ use Rattle.method.specs.Shelf.{files, bytes}
 use Rattle.method.specs.Method.{State, Served, Run, run, step}
 use Rattle.method.specs.Events.{entries, events}
 use Rattle.method.specs.Totals.{Totals, totals, onAdmitted, copies}
+use Rattle.method.specs.Whole.{raise, liftsOf}
+use Rattle.method.proofs.Raising.{sum-raise}
 use Rattle.method.proofs.Runs.{at-most-one, length-entries}
 use Rattle.method.proofs.Counts.{step-counts}
 use Rattle.trace.specs.Reading.{good, readOf}
 use Rattle.trace.specs.Steps.{Requested, RequestAt, First}
 use Rattle.trace.specs.declared.reader.Taken.{Taken}
 use Rattle.trace.proofs.RoundTrip.{part-ranged}
-use Rattle.tables.specs.Tables.{Tables, shelfOf}
-use Rattle.tables.specs.Tally.{storeOf, policyIn, stateOf, totalsOf}
+use Rattle.tables.specs.Tables.{Tables}
+use Rattle.tables.specs.Tally.{storeOf, policyIn, stateOf, wholeOf, totalsOf}
 use Rattle.tables.specs.Sound.{Sound}
 use Rattle.tables.specs.declared.tally.Tally.{Tally}
 use Rattle.tables.proofs.Ranges.{Bounded, bounded}
 use Rattle.tables.proofs.Shelves.{shelf-length}
-use Rattle.counting.specs.Counting.{tallied, after}
-use Rattle.serving.specs.Serving.{Running, Servable, Stepped, asked, beyondOf}
+use Rattle.counting.specs.Counting.{wholeTally}
+use Rattle.serving.specs.Serving.{Running, wholeStep, Servable, Stepped, asked, beyondOf}
 use Rattle.refusing.specs.Judging.{requestsIn}
-use Rattle.parts.specs.Parts.{runFrom, eventsOf, Ready, PartServed}
+use Rattle.parts.specs.Parts.{runFrom, liftsFrom, eventsOf, Ready, PartServed}
 use Rattle.parts.specs.declared.Ended.{Ended}
 use Rattle.serving.specs.declared.step.Step.{Step}
-use Rattle.serving.proofs.Runnings.{next-state}
 use Rattle.serving.proofs.Writing.{sets-append}
 
 -- the loop's head: what is left of the run makes of what stands now what the whole makes of what stood at entry
@@ -49,6 +50,7 @@ pub record Walk (a : Tally) (part : List ℕ) (count : ℕ) (t₀ : Tables) (tol
   pub sums : totals (totalsOf b) (runFrom b t rest .replies) ≡ totals (totalsOf a) (runFrom a t₀ (requestsIn a part) .replies)
   pub written : sets told e (eventsOf rest (runFrom b t rest)) ≡ sets told₀ 0 (eventsOf (requestsIn a part) (runFrom a t₀ (requestsIn a part)))
   pub counts : e + length (eventsOf rest (runFrom b t rest)) ≡ length (eventsOf (requestsIn a part) (runFrom a t₀ (requestsIn a part)))
+  pub lifts : liftsFrom b t rest ≡ liftsFrom a t₀ (requestsIn a part)
   pub past : beyondOf (a .settings) t ≡ beyondOf (a .settings) t₀
 
 pub walk-first : (a : Tally) (part : List ℕ) (count : ℕ) (t : Tables) (entry free told : List ℕ) → Ready a part count t entry free told → Walk a part count t told t entry free told a 0 0 0
@@ -65,6 +67,7 @@ walk-first a part count t entry free told h =
       sums = refl;
       written = refl;
       counts = omega arith;
+      lifts = refl;
       past = refl;
     }
 
@@ -76,13 +79,18 @@ good-one e = cc
 module _ (b : Tally) (t : Tables) (entry free told : List ℕ) (e : ℕ) (q : Request) (l : List Request) (h : Servable b q t entry free told e)
     (r : Step) (u : Tables) (entry′ free′ told′ : List ℕ) (s : Stepped b q t told e r u entry′ free′ told′) where
   abbrev x : Served State
-  x = step (policyIn (b .settings)) (storeOf (b .settings)) (stateOf b t) q
+  x = wholeStep b t q
+
+  same-settings : r .tally .settings ≡ b .settings
+  same-settings = ap (λ (y : Tally). y .settings) (s .tally)
 
   -- the rest of the run goes on from what stands now
   rest-run : runFrom (r .tally) u l ≡ run (step (policyIn (b .settings)) (storeOf (b .settings))) (x .state) l
-  rest-run =
-      ap (λ (y : Tally). runFrom y u l) (s .serves .tally)
-      ∙ ap (λ (st : State). run (step (policyIn (b .settings)) (storeOf (b .settings))) st l) (next-state b t entry free (h .running) q (h .ranged) (h .few) u (s .serves .shelf))
+  rest-run = λ i. run (step (policyIn (same-settings i)) (storeOf (same-settings i))) (s .state i) l
+
+  more-lifts : liftsFrom (r .tally) u l ≡ liftsFrom b t (q ∷ l)
+  unfolding liftsOf
+  more-lifts = λ i. liftsOf (step (policyIn (same-settings i)) (storeOf (same-settings i))) (s .tally i .lifts) (s .state i) l
 
   more-state : runFrom (r .tally) u l .state ≡ runFrom b t (q ∷ l) .state
   unfolding run
@@ -90,7 +98,7 @@ module _ (b : Tally) (t : Tables) (entry free told : List ℕ) (e : ℕ) (q : Re
 
   more-sums : totals (totalsOf (r .tally)) (runFrom (r .tally) u l .replies) ≡ totals (totalsOf b) (runFrom b t (q ∷ l) .replies)
   unfolding run totals
-  more-sums = λ i. totals (totalsOf (s .serves .tally i)) (rest-run i .replies)
+  more-sums = λ i. totals (totalsOf (s .tally i)) (rest-run i .replies)
 
   more-events : eventsOf (q ∷ l) (runFrom b t (q ∷ l)) ≡ entries q (x .reply) ++ eventsOf l (runFrom (r .tally) u l)
   unfolding run events
@@ -98,26 +106,24 @@ module _ (b : Tally) (t : Tables) (entry free told : List ℕ) (e : ℕ) (q : Re
 
   more-written : sets told′ (r .events) (eventsOf l (runFrom (r .tally) u l)) ≡ sets told e (eventsOf (q ∷ l) (runFrom b t (q ∷ l)))
   more-written =
-      (λ i. sets (s .serves .written i) (s .serves .count i) (eventsOf l (runFrom (r .tally) u l)))
+      (λ i. sets (s .written i) (s .count i) (eventsOf l (runFrom (r .tally) u l)))
       ∙ sym (sets-append told e (entries q (x .reply)) (eventsOf l (runFrom (r .tally) u l))) ∙ ap (sets told e) (sym more-events)
 
   more-counts : r .events + length (eventsOf l (runFrom (r .tally) u l)) ≡ e + length (eventsOf (q ∷ l) (runFrom b t (q ∷ l)))
   more-counts =
-      omega (arith, s .serves .count, ap (λ (es : List ℕ). length es) more-events, length-append (entries q (x .reply)) (eventsOf l (runFrom (r .tally) u l)))
+      omega (arith, s .count, ap (λ (es : List ℕ). length es) more-events, length-append (entries q (x .reply)) (eventsOf l (runFrom (r .tally) u l)))
 
   more-room : e + 2 * suc (length l) + b .«files_kept» ≤ length told → r .events + 2 * length l + r .tally .«files_kept» ≤ length told′
   more-room room =
-      let k : copies (x .reply .dropped) + length (x .reply .evicted) + files (x .state .shelf) ≡ files (stateOf b t .shelf) + onAdmitted (x .reply .outcome) 1 =
-      step-counts (policyIn (b .settings)) (storeOf (b .settings)) (stateOf b t) q (omega (arith, shelf-length (b .settings .catalogue .0) t (h .running .long .place), h .ranged .file)) in
-      let n : r .tally .«files_kept» ≡ files (x .state .shelf) = ap (λ (y : Tally). y .«files_kept») (s .serves .tally) in
-      let w : length told′ ≡ length told = ap (λ (es : List ℕ). length es) (s .serves .written) ∙ length-sets told e (entries q (x .reply)) in
-      omega (arith, s .serves .count, length-entries q (x .reply), at-most-one (x .reply .outcome), h .running .sound .files)
+      let k : copies (x .reply .dropped) + length (x .reply .evicted) + files (x .state .shelf) ≡ files (wholeOf b t .shelf) + onAdmitted (x .reply .outcome) 1 =
+      step-counts (policyIn (b .settings)) (storeOf (b .settings)) (wholeOf b t) q
+      (omega (arith, length-map (stateOf b t .shelf) (raise (b .lifts * lift)), shelf-length (b .settings .catalogue .0) t (h .running .long .place), h .ranged .file)) in
+      let n : r .tally .«files_kept» ≡ files (x .state .shelf) = ap (λ (y : Tally). y .«files_kept») (s .tally) in
+      let w : length told′ ≡ length told = ap (λ (es : List ℕ). length es) (s .written) ∙ length-sets told e (entries q (x .reply)) in
+      omega (arith, s .count, length-entries q (x .reply), at-most-one (x .reply .outcome), h .running .sound .files, sum-raise (λ r. 1) (b .lifts * lift) (λ r. refl) (stateOf b t .shelf))
 
   more-requests : r .tally .requests ≡ b .requests + 1
-  more-requests = ap (λ (y : Tally). y .requests) (s .serves .tally)
-
-  same-settings : r .tally .settings ≡ b .settings
-  same-settings = ap (λ (y : Tally). y .settings) (s .serves .tally)
+  more-requests = ap (λ (y : Tally). y .requests) (s .tally)
 
 -- ---- a turn of the loop
 
@@ -209,20 +215,23 @@ module _ (a : Tally) (part : List ℕ) (count : ℕ) (t₀ : Tables) (told₀ : 
         counts =
             more-counts b t entry free told e q l servable-q r u entry′ free′ told′ s
             ∙ (λ i. e + length (eventsOf (sym (turn .rest) i) (sym at-rest i))) ∙ w .counts;
-        past = subst (λ (x : Settings). beyondOf x u ≡ beyondOf x t) (w .settings) (s .serves .past) ∙ w .past;
+        lifts = more-lifts b t entry free told e q l servable-q r u entry′ free′ told′ s ∙ ap (liftsFrom b t) (sym (turn .rest)) ∙ w .lifts;
+        past = subst (λ (x : Settings). beyondOf x u ≡ beyondOf x t) (w .settings) (s .past) ∙ w .past;
       }
 
 -- ---- the end
 
--- the tally of sound tables, by the state and the totals that both stand for
-pub stands : (a b : Tally) (t : Tables) (st : State) (y : Totals) → b .settings ≡ a .settings → stateOf b t ≡ st → totalsOf b ≡ y → Sound b t
-    → b ≡ tallied a (st .inflation) (bytes (st .shelf)) (files (st .shelf)) y
-stands a b t st y set is sums sound =
-    let used : b .«bytes_kept» .0 ≡ bytes (st .shelf) = sym (sound .bytes) ∙ ap (λ (x : State). bytes (x .shelf)) is in
-    let many : b .«files_kept» ≡ files (st .shelf) = sym (sound .files) ∙ ap (λ (x : State). files (x .shelf)) is in
+-- the tally of sound tables, by the whole state, the lifts and the totals that both stand for
+pub stands : (a b : Tally) (t : Tables) (k : ℕ) (st : State) (y : Totals) → b .settings ≡ a .settings → b .lifts ≡ k → wholeOf b t ≡ st → totalsOf b ≡ y → Sound b t → b ≡ wholeTally a k st y
+stands a b t k st y set lifts is sums sound =
+    let left : b .inflation .0 ≡ st .inflation - k * lift = omega (arith, lifts, ap (λ (x : State). x .inflation) is) in
+    let used : b .«bytes_kept» .0 ≡ bytes (st .shelf) =
+    sym (sound .bytes) ∙ sym (sum-raise (λ r. r .size) (b .lifts * lift) (λ r. refl) (stateOf b t .shelf)) ∙ ap (λ (x : State). bytes (x .shelf)) is in
+    let many : b .«files_kept» ≡ files (st .shelf) =
+    sym (sound .files) ∙ sym (sum-raise (λ r. 1) (b .lifts * lift) (λ r. refl) (stateOf b t .shelf)) ∙ ap (λ (x : State). files (x .shelf)) is in
     λ j. record {
       settings = set j;
-      inflation = record { 0 = is j .inflation };
+      inflation = record { 0 = left j };
       «bytes_kept» = record { 0 = used j };
       «files_kept» = many j;
       requests = sums j .requests;
@@ -235,26 +244,26 @@ stands a b t st y set is sums sound =
       «cost_asked» = record { 0 = sums j .cost };
       «hit_cost» = record { 0 = sums j .hitCost };
       dropped = sums j .dropped;
+      lifts = lifts j;
     }
 
 pub walk-end : (a : Tally) (part : List ℕ) (count : ℕ) (t₀ : Tables) (told₀ : List ℕ) (t : Tables) (entry free told : List ℕ) (b : Tally) (at e i : ℕ)
     → Walk a part count t₀ told₀ t entry free told b at e i → count ≤ i → (r : Ended) → r .tally ≡ b → r .events ≡ e → PartServed (requestsIn a part) a t₀ told₀ r t entry free told
-unfolding run totals events
+unfolding run totals events liftsOf
 walk-end a part count t₀ told₀ t entry free told b at e i w end r is-b is-e =
     let none : w .rest ≡ [] = empty (w .rest) (omega (arith, w .number)) in
     let qs : List Request = requestsIn a part in
-    let st : stateOf b t ≡ runFrom a t₀ qs .state = ap (λ (l : List Request). runFrom b t l .state) (sym none) ∙ w .state in
+    let st : wholeOf b t ≡ runFrom a t₀ qs .state = ap (λ (l : List Request). runFrom b t l .state) (sym none) ∙ w .state in
     let sums : totalsOf b ≡ totals (totalsOf a) (runFrom a t₀ qs .replies) =
     ap (λ (l : List Request). totals (totalsOf b) (runFrom b t l .replies)) (sym none) ∙ w .sums in
     let evs : told ≡ sets told₀ 0 (eventsOf qs (runFrom a t₀ qs)) =
     ap (λ (l : List Request). sets told e (eventsOf l (runFrom b t l))) (sym none) ∙ w .written in
     let cnt : e + 0 ≡ length (eventsOf qs (runFrom a t₀ qs)) =
     ap (λ (l : List Request). e + length (eventsOf l (runFrom b t l))) (sym none) ∙ w .counts in
-    let shelf : shelfOf (a .settings .catalogue .0) t ≡ runFrom a t₀ qs .state .shelf =
-    ap (λ (x : Settings). shelfOf (x .catalogue .0) t) (sym (w .settings)) ∙ ap (λ (x : State). x .shelf) st in
+    let lifts : b .lifts ≡ liftsFrom a t₀ qs = ap (liftsFrom b t) (sym none) ∙ w .lifts in
     record {
-      tally = is-b ∙ stands a b t (runFrom a t₀ qs .state) _ (w .settings) st sums (w .running .sound);
-      shelf = shelf;
+      tally = is-b ∙ stands a b t (liftsFrom a t₀ qs) (runFrom a t₀ qs .state) _ (w .settings) lifts st sums (w .running .sound);
+      state = ap (λ (x : Tally). wholeOf x t) is-b ∙ st;
       written = evs;
       count = is-e ∙ omega (arith, cnt);
       running = subst (λ (x : Tally). Running x t entry free) (sym is-b) (w .running);

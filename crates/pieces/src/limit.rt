@@ -1,27 +1,35 @@
-// 1,048,576 requests pass; one more is 5.
+// 4,294,967,295 requests pass; one more is 5.
 use crate::sheets::settings;
+use amounts::Bytes;
+use amounts::Cost;
 use amounts::Places;
+use amounts::Requests;
+use amounts::Settings;
 use libc::STDOUT_FILENO;
 use replay::Carried;
 use replay::carry_on;
 use tables::Tally;
 use trace::Answer;
-ghost use Prim.Native.Nat.{_≤_};
 
-// The requests of a part, each for file 1 of size 1 and cost 1.
-const PART: usize = 16384;
+// One request short of the run limit.
+const BEFORE: u64 = Requests::MOST - 1;
 
-// So many parts come to the run limit.
-const PARTS: u64 = 64;
+// The size of a file that is one more than the capacity.
+const BIG: u64 = 101;
 
-// How much of the part a turn takes: all of it up to the limit, then one request.
-fn length_at(turn: u64, whole: usize) -> usize
-    ensures { λ r. ⌜ r ≤ whole ⌝ }
-{
-    if turn < PARTS { whole } else { whole / PART }
+// The tally of a run that passed all its requests, each too big at cost 1, and has room for one more.
+fn before_limit(chosen: Settings) -> Tally {
+    let mut t = Tally::new(chosen);
+    let asked = Bytes(BEFORE * BIG);
+    let cost = Cost(BEFORE);
+    t.requests = BEFORE;
+    t.passed = BEFORE;
+    t.bytes_asked = asked;
+    t.cost_asked = cost;
+    t
 }
 
-// The part over and over up to the run limit, then one request more: its answer, and the tally.
+// The part twice, one turn up to the run limit and one past it: the last answer, and the tally.
 fn over_limit(
     begun: Tally,
     place: &mut [u16],
@@ -41,10 +49,9 @@ fn over_limit(
         tally: begun,
     };
     let mut i: u64 = 0;
-    while i <= PARTS {
+    while i < 2 {
         let t = ran.tally;
         let unit = t.settings.unit;
-        let length = length_at(i, part.len());
         ran = carry_on(
             unit,
             t,
@@ -56,7 +63,7 @@ fn over_limit(
             key,
             stamp,
             queue,
-            &part[..length],
+            part,
             events,
         );
         i += 1;
@@ -78,7 +85,7 @@ fn number_of(answer: Answer) -> u64 {
     }
 }
 
-// The same over tables of its own, as a fresh start leaves them.
+// The same over tables of its own, which such a run leaves as a fresh start does; file 1 of size 1 and cost 1 is asked for.
 pub(crate) fn run_limit() {
     let mut place = [Places::NONE; 4];
     let mut file = [0u16; 1];
@@ -88,11 +95,11 @@ pub(crate) fn run_limit() {
     let mut key = [0u64; 1];
     let mut stamp = [0u64; 1];
     let mut queue = [0u16; 1];
-    let part = [1u8; 3 * PART];
-    let mut events = [0u32; 2 * PART + 1];
+    let part = [1u8; 3];
+    let mut events = [0u32; 3];
     let chosen = settings(3, 100, 1);
     let ran = over_limit(
-        Tally::new(chosen),
+        before_limit(chosen),
         &mut place,
         &mut file,
         &mut size,
@@ -106,6 +113,8 @@ pub(crate) fn run_limit() {
     );
     let t = ran.tally;
     print_line(b"requests ", t.requests);
+    print_line(b"admitted ", t.admitted);
+    print_line(b"passed ", t.passed);
     let answer = ran.answer;
     print_line(b"refused ", number_of(answer));
 }

@@ -15,7 +15,7 @@ use Rattle.ratios.specs.declared.answer.Ratios.{Ratios}
 use Rattle.ratios.proofs.Dividing.{divided-by}
 use Rattle.ratios.proofs.Laws.{double-zero, double-one, all-hit, none-hit, rises, at-least-zero, at-most-one, no-nan, only-all, only-none}
 use Rattle.ratios.proofs.Nearness.{near}
-use Rattle.ratios.proofs.Rating.{Case, empty, broken, whole, case-of, rateable}
+use Rattle.ratios.proofs.Rating.{Case, empty, broken, past, whole, case-of, rateable}
 
 -- ---- one quotient
 
@@ -52,7 +52,8 @@ given a x p = go (case-of a)
     go : Case a → Given a x
     go (empty e) = absurd (not-given 11 x (lit≤ tt) (p .none e))
     go (broken n nc) = absurd (not-given 7 x (lit≤ tt) (p .unsound n nc))
-    go (whole n h) = record { some = n; rateable = rateable a n h; is = same-ratios (ratiosOf a) x (sym (p .rated n h)) }
+    go (past n h k) = absurd (not-given 12 x (lit≤ tt) (p .inexact n h k))
+    go (whole n h k) = record { some = n; rateable = rateable a n h k; is = same-ratios (ratiosOf a) x (sym (p .rated n h k)) }
 
 -- document 02, ticket 3: each is one division, rounded once, and fair
 pub relied : (a : Tally) (x : Ratios) → Rates a (giving x) → Relied a x

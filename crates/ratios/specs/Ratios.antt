@@ -1,12 +1,12 @@
--- Both ratios of a tally, or why there are none (document 02, ticket 3). Assumes nothing.
+-- Both ratios of a tally, or why there are none (document 02, tickets 3 and 5). Assumes nothing.
 use mathlib.Core.Path.{_≡_}
 use mathlib.Core.List.{List, [], _∷_}
-use Prim.Native.Nat.{_≤_}
+use Prim.Native.Nat.{_≤_, _<_}
 use lib.Ieee.{Float}
 use Rattle.card.specs.Card.{Card, done, refused, cardOf}
 use Rattle.tables.specs.Sound.{Counted}
 use Rattle.tables.specs.declared.tally.Tally.{Tally}
-use Rattle.ratios.specs.Quotient.{quotient, Part}
+use Rattle.ratios.specs.Quotient.{exactMost, quotient, Part}
 use Rattle.ratios.specs.declared.answer.Ratios.{Ratios}
 use Rattle.ratios.specs.declared.answer.Rated.{Rated}
 use Rattle.ratios.specs.declared.answer.Rated.the-variants.{Done, Refused}
@@ -42,8 +42,10 @@ abbrev pub ratioCard : Rated → RatioCard
 ratioCard (Done x) = giving x
 ratioCard (Refused r) = refusing (cardOf r)
 
--- document 02, ticket 3: 11 when there are no requests, before any other test; then 7 when the tally breaks soundness on the sum to requests, bytes asked or hit bytes; else the record
+-- document 02, ticket 3: 11 when there are no requests, before any other test; then 7 when the tally breaks soundness on the sum to requests, bytes asked or hit bytes
+-- document 02, ticket 5: then 12 with bytes asked above 9,007,199,254,740,992; else the record
 pub record Rates (a : Tally) (x : RatioCard) : Type 0 where
   pub none : a .requests ≡ 0 → x ≡ refusing (refused 11 [])
   pub unsound : 1 ≤ a .requests → (Counted a → ⊥) → x ≡ refusing (refused 7 [])
-  pub rated : 1 ≤ a .requests → Counted a → x ≡ giving (ratiosOf a)
+  pub inexact : 1 ≤ a .requests → Counted a → exactMost < a .«bytes_asked» .0 → x ≡ refusing (refused 12 [])
+  pub rated : 1 ≤ a .requests → Counted a → a .«bytes_asked» .0 ≤ exactMost → x ≡ giving (ratiosOf a)

@@ -6,6 +6,9 @@ use totals::counts_agree;
 ghost use mathlib.Core.Path.{_≡_};
 ghost use Rattle.ratios.specs.Ratios.{ratiosOf, Rateable, ratioCard, Rates};
 
+// 2 to the 53rd, up to which a double has every count exactly.
+const EXACT: u64 = 9007199254740992;
+
 pub struct Ratios {
     pub hits: f64,
     pub bytes: f64,
@@ -29,7 +32,7 @@ fn both(a: Tally) -> Ratios
     }
 }
 
-// Both ratios of any tally: refused where it has no requests, then where its requests or bytes can't be those of a run.
+// Both ratios of any tally: refused where it has no requests, then where its requests or bytes can't be those of a run, then where its bytes are no double.
 pub fn ratios_of(a: Tally) -> Rated
     ensures { λ r. ⌜ Rates a (ratioCard r) ⌝ }
 {
@@ -38,6 +41,9 @@ pub fn ratios_of(a: Tally) -> Rated
     }
     if !counts_agree(a) {
         return Rated::Refused(Refusal::Unsound);
+    }
+    if EXACT < a.bytes_asked.0 {
+        return Rated::Refused(Refusal::Inexact);
     }
     let ratios = both(a);
     Rated::Done(ratios)

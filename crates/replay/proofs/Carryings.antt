@@ -12,10 +12,12 @@ use Rattle.trace.specs.declared.answer.Answer.the-variants.{Done}
 use Rattle.amounts.specs.Requests.{Request}
 use Rattle.amounts.specs.declared.settings.Settings.{Settings}
 use Rattle.tables.specs.Tables.{Tables, Long}
+use Rattle.tables.specs.Tally.{wholeOf}
 use Rattle.tables.specs.Start.{long}
 use Rattle.tables.specs.Sound.{Sound, Verdict}
 use Rattle.tables.specs.declared.tally.Tally.{Tally}
 use Rattle.tables.proofs.Lengths.{long-of}
+use Rattle.tables.proofs.Near.{near}
 use Rattle.tables.proofs.Ranges.{bounded}
 use Rattle.serving.specs.Serving.{Running}
 use Rattle.refusing.specs.Judging.{Judgeable, fitting, settled, Orderly}
@@ -42,7 +44,7 @@ pub orderly : (unit : ℕ) (a : Tally) (t : Tables) → settled unit a (long (a 
 orderly unit a t e = let x = settled-fine unit a (long (a .settings) t) e in record { range = x .0; long = long-of (a .settings .places .0) (a .settings .catalogue .0) t (x .1) }
 
 pub judgeable : (a : Tally) (t : Tables) → Orderly a t → Sound a t → Judgeable a
-judgeable a t o s = record { few = s .few; kept = omega (arith, s .files, s .shelf .files, bounded (a .settings) (o .range) .places .1) }
+judgeable a t o s = record { few = s .few; kept = omega (arith, s .files, near s .files, bounded (a .settings) (o .range) .places .1) }
 
 module _ (a : Tally) (t : Tables) (entry entry′ free free′ : List ℕ) (answer : Bool) (v : Verdict a t entry entry′ free free′ answer) where
   pub sound-running : Orderly a t → answer ≡ true → a .settings .places .0 ≤ length entry → a .settings .places .0 ≤ length free → Running a t entry′ free′
@@ -69,7 +71,7 @@ served-runs qs a t told e u entry free told′ x r is-a is-t =
     record {
       answer = ap answerCard is-a ∙ ap (λ (n : ℕ). done (n ∷ [])) (x .count);
       tally = is-t ∙ x .tally;
-      shelf = x .shelf;
+      state = ap (λ (y : Tally). wholeOf y u) is-t ∙ x .state;
       sound = subst (λ (y : Tally). Sound y u) (sym is-t) (x .running .sound);
       written = x .written;
       long = subst (λ (y : Settings). Long (y .places .0) (y .catalogue .0) u) (ap (λ (y : Tally). y .settings) (x .tally)) (x .running .long);

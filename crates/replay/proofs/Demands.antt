@@ -9,20 +9,20 @@ use Rattle.amounts.specs.Requests.{Request, AllRanged}
 use Rattle.method.specs.Method.{State, Run, run, step, fresh}
 use Rattle.method.specs.Events as method
 use Rattle.method.specs.Totals.{totals, zeros}
+use Rattle.method.specs.Whole.{liftsOf}
 use Rattle.method.proofs.Runs.{run-replies}
 use Rattle.method.proofs.Agreement.{totals-requests}
 use Rattle.method.proofs.Demand.{demand3}
 use Rattle.trace.proofs.Ranges.{settled}
 use Rattle.trace.proofs.RoundTrip.{part-ranged}
-use Rattle.tables.specs.Tables.{shelfOf}
-use Rattle.tables.specs.Tally.{storeOf, policyIn, totalsOf, freshTally}
+use Rattle.tables.specs.Tally.{storeOf, policyIn, wholeOf, totalsOf, freshTally}
 use Rattle.tables.proofs.Lengths.{long-of}
-use Rattle.tables.proofs.Shelves.{fresh-shelf}
+use Rattle.tables.proofs.Near.{fresh-whole}
 use Rattle.tables.proofs.Twins.{fresh-done, freshly-sound}
 use Rattle.parts.specs.Parts.{runFrom}
 use Rattle.replay.specs.Demand.{soFar, Demands}
 use Rattle.replay.proofs.OneAnswer.{fresh-long}
-use Rattle.replay.proofs.InParts.{at-once-state, in-parts}
+use Rattle.replay.proofs.InParts.{in-parts}
 
 ranged-front : (n : ℕ) (ps rs : List Request) → AllRanged n (ps ++ rs) → AllRanged n ps
 ranged-front n [] rs h = tt
@@ -35,9 +35,8 @@ demands s a t bytes es h =
     let enough = fresh-long s (h .old) (h .answer) (h .new) (h .starts) (h .range) (h .enough) in
     let sound = freshly-sound s (h .old) (h .answer) (h .new) (h .starts) (h .range) (h .enough) .1 in
     let x = in-parts (freshTally s) (h .new) sound (long-of (s .places .0) n (h .new) enough) (h .goes) in
-    let shelf = ap (shelfOf n) (start .1) ∙ fresh-shelf (s .places .0) n (h .old) in
-    let same : runFrom (freshTally s) (h .new) (x .qs) ≡ soFar s (x .qs) =
-    ap (λ (st : State). run (step (policyIn s) (storeOf s)) st (x .qs)) (λ i. record { inflation = 0; shelf = shelf i; stamp = 0 }) in
+    let first : wholeOf (freshTally s) (h .new) ≡ fresh (storeOf s) = ap (wholeOf (freshTally s)) (start .1) ∙ fresh-whole s (h .old) in
+    let same : runFrom (freshTally s) (h .new) (x .qs) ≡ soFar s (x .qs) = ap (λ (st : State). run (step (policyIn s) (storeOf s)) st (x .qs)) first in
     let counts : totalsOf a ≡ totals zeros (soFar s (x .qs) .replies) = ap totalsOf (x .at-once .tally) ∙ ap (λ (y : Run State). totals zeros (y .replies)) same in
     let number : totalsOf a .requests ≡ length (x .qs) =
     ap (λ z. z .requests) counts ∙ totals-requests zeros (soFar s (x .qs) .replies)
@@ -47,7 +46,8 @@ demands s a t bytes es h =
       qs = x .qs;
       reads = x .reads;
       settings = ap (λ z. z .settings) (x .at-once .tally);
-      state = at-once-state (freshTally s) (h .new) a t (x .qs) es (x .at-once) ∙ ap (λ (y : Run State). y .state) same;
+      state = x .at-once .state ∙ ap (λ (y : Run State). y .state) same;
+      lifts = ap (λ z. z .lifts) (x .at-once .tally) ∙ ap (λ (st : State). liftsOf (step (policyIn s) (storeOf s)) 0 st (x .qs)) first;
       counts = counts;
       events = x .at-once .events ∙ ap (λ (y : Run State). method.events (x .qs) (y .replies)) same;
       few = subst (λ (k : ℕ). k ≤ requestsMost) number (x .sound .few);

@@ -2,10 +2,11 @@
 use mathlib.Core.Path.{_≡_, refl, sym, ap, _∙_, subst}
 use mathlib.Core.Bool.{true}
 use mathlib.Core.List.{List, [], _++_}
-use Prim.Native.Nat.{ℕ, _+_, _≤_}
+use Prim.Native.Nat.{ℕ, _*_, _≤_}
 use native.Mathlib.Omega.{arith}
 use lib.ListN.{length, take}
 use lib.Seq.{sets, sets-eq, take-at}
+use Rattle.amounts.specs.Limits.{lift}
 use Rattle.amounts.specs.Settings.{inRange}
 use Rattle.amounts.specs.Requests.{Request}
 use Rattle.amounts.specs.declared.settings.Settings.{Settings}
@@ -15,23 +16,26 @@ use Rattle.method.specs.Shelf.{bytes, files}
 use Rattle.method.specs.Method.{State, Served, Run, run, step}
 use Rattle.method.specs.Totals.{totals}
 use Rattle.method.specs.Events.{events}
-use Rattle.method.proofs.Runs.{run-append-state, run-append-replies, run-append-events, run-stamp, run-replies, events-length}
-use Rattle.method.proofs.Agreement.{totals-append, totals-requests}
+use Rattle.method.specs.Whole.{liftsOf}
+use Rattle.method.proofs.Raising.{sum-raise}
+use Rattle.method.proofs.Lifts.{lifts-append}
+use Rattle.method.proofs.Runs.{run-append-state, run-append-replies, run-append-events, events-length}
+use Rattle.method.proofs.Agreement.{totals-append}
 use Rattle.trace.specs.Reading.{good, readOf}
 use Rattle.trace.specs.Cards.{answerCard}
 use Rattle.trace.specs.declared.answer.Answer.{Answer}
 use Rattle.trace.specs.declared.answer.Answer.the-variants.{Done, Refused}
 use Rattle.trace.proofs.RoundTrip.{part-append, part-ranged}
-use Rattle.tables.specs.Tables.{Tables, Long, shelfOf}
-use Rattle.tables.specs.Tally.{storeOf, policyIn, stateOf, totalsOf}
+use Rattle.tables.specs.Tables.{Tables, Long}
+use Rattle.tables.specs.Tally.{storeOf, policyIn, stateOf, wholeOf, totalsOf}
 use Rattle.tables.specs.Sound.{Sound}
 use Rattle.tables.specs.Renaming.{Renamed}
 use Rattle.tables.specs.declared.tally.Tally.{Tally}
 use Rattle.tables.proofs.Ranges.{bounded}
-use Rattle.counting.specs.Counting.{tallied}
+use Rattle.counting.specs.Counting.{wholeTally}
 use Rattle.serving.specs.Serving.{beyondOf}
 use Rattle.refusing.specs.Judging.{requestsIn}
-use Rattle.parts.specs.Parts.{runFrom, tallyOf, eventsOf}
+use Rattle.parts.specs.Parts.{runFrom, liftsFrom, tallyOf, eventsOf}
 use Rattle.replay.specs.Carrying.{Runs, Answers, Carries}
 use Rattle.replay.specs.Demand.{Goes, here, on, AtOnce}
 use Rattle.replay.specs.declared.carry.Carried.{Carried}
@@ -70,7 +74,8 @@ module _ (a : Tally) (t : Tables) (told : List ℕ) (r : Carried) (u : Tables) (
             s .fits .room,
             s .fits .counts,
             s .sound .files,
-            events-length p (storeOf (a .settings)) (bounded (a .settings) (s .range) .places .0) (stateOf a t) (a .requests) (s .sound .shelf) qs
+            sum-raise (λ r. 1) (a .lifts * lift) (λ r. refl) (stateOf a t .shelf),
+            events-length p (storeOf (a .settings)) (bounded (a .settings) (s .range) .places .0) (wholeOf a t) (a .requests) (s .sound .shelf) qs
                 (part-ranged (length part) (a .settings .catalogue .0) qs part (s .fits .reads)),
           ) in
           let count : n ≡ length (eventsOf qs x) = ap valueOf (sym (ap answerCard e) ∙ h .answer) in
@@ -88,14 +93,6 @@ module _ (a : Tally) (t : Tables) (b : Tally) (u : Tables) (qs : List Request) (
   same-settings : b .settings ≡ a .settings
   same-settings = ap (λ (y : Tally). y .settings) (h .tally)
 
-  -- the tally and the tables stand for the state after the run
-  pub at-once-state : stateOf b u ≡ x .state
-  at-once-state =
-      let stamp : totals (totalsOf a) (x .replies) .requests ≡ x .state .stamp =
-      totals-requests (totalsOf a) (x .replies) ∙ ap (λ (n : ℕ). a .requests + n) (run-replies one (stateOf a t) qs)
-      ∙ sym (run-stamp (policyIn (a .settings)) (storeOf (a .settings)) (stateOf a t) qs) in
-      ap (λ (y : Tally). stateOf y u) (h .tally) ∙ (λ i. record { inflation = x .state .inflation; shelf = h .shelf i; stamp = stamp i })
-
   -- a further run goes on from there, under the same settings
   module _ (ps : List Request) where
     abbrev y : Run State
@@ -103,26 +100,30 @@ module _ (a : Tally) (t : Tables) (b : Tally) (u : Tables) (qs : List Request) (
 
     further : runFrom b u ps ≡ y
     further =
-        ap (λ (s : Settings). run (step (policyIn s) (storeOf s)) (stateOf b u) ps) same-settings ∙ ap (λ (st : State). run one st ps) at-once-state
+        ap (λ (s : Settings). run (step (policyIn s) (storeOf s)) (wholeOf b u) ps) same-settings ∙ ap (λ (st : State). run one st ps) (h .state)
+
+    -- and so do the lifts
+    further-lifts : liftsFrom b u ps ≡ liftsFrom a t (qs ++ ps)
+    further-lifts =
+        ap (λ (c : Tally). liftsOf (step (policyIn (c .settings)) (storeOf (c .settings))) (c .lifts) (wholeOf b u) ps) (h .tally)
+        ∙ ap (λ (st : State). liftsOf one (liftsFrom a t qs) st ps) (h .state) ∙ sym (lifts-append one (a .lifts) (wholeOf a t) qs ps)
 
     further-state : y .state ≡ runFrom a t (qs ++ ps) .state
-    further-state = sym (run-append-state one (stateOf a t) qs ps)
+    further-state = sym (run-append-state one (wholeOf a t) qs ps)
 
     further-sums : totals (totals (totalsOf a) (x .replies)) (y .replies) ≡ totals (totalsOf a) (runFrom a t (qs ++ ps) .replies)
-    further-sums = sym (totals-append (totalsOf a) (x .replies) (y .replies)) ∙ ap (totals (totalsOf a)) (sym (run-append-replies one (stateOf a t) qs ps))
+    further-sums = sym (totals-append (totalsOf a) (x .replies) (y .replies)) ∙ ap (totals (totalsOf a)) (sym (run-append-replies one (wholeOf a t) qs ps))
 
     further-at-once : (told : List ℕ) (r : Carried) (w : Tables) (told′ more : List ℕ) → Runs ps b u told r w told′
         → more ≡ eventsOf ps (runFrom b u ps) → AtOnce a t (r .tally) w (qs ++ ps) (es ++ more)
     further-at-once told r w told′ more g e =
         record {
           tally =
-              g .tally ∙ (λ i. tallyOf (h .tally i) (further i))
-              ∙ (λ i. tallied a (further-state i .inflation) (bytes (further-state i .shelf)) (files (further-state i .shelf)) (further-sums i));
-          shelf =
-              ap (λ (s : Settings). shelfOf (s .catalogue .0) w) (sym same-settings) ∙ g .shelf ∙ ap (λ (z : Run State). z .state .shelf) further
-              ∙ ap (λ (st : State). st .shelf) further-state;
+              g .tally ∙ (λ i. tallyOf (h .tally i) (further-lifts i) (further i))
+              ∙ (λ i. wholeTally a (liftsFrom a t (qs ++ ps)) (further-state i) (further-sums i));
+          state = g .state ∙ ap (λ (z : Run State). z .state) further ∙ further-state;
           events =
-              (λ i. h .events i ++ (e ∙ ap (λ (z : Run State). eventsOf ps z) further) i) ∙ sym (run-append-events one (stateOf a t) qs ps);
+              (λ i. h .events i ++ (e ∙ ap (λ (z : Run State). eventsOf ps z) further) i) ∙ sym (run-append-events one (wholeOf a t) qs ps);
           past =
               ap (λ (s : Settings). beyondOf s w) (sym same-settings) ∙ g .past ∙ ap (λ (s : Settings). beyondOf s u) same-settings ∙ h .past;
         }
@@ -137,12 +138,12 @@ pub record Comes (a : Tally) (t : Tables) (b : Tally) (u : Tables) (bytes es : L
 
 pub in-parts : (a : Tally) (t : Tables) → Sound a t → Long (a .settings .places .0) (a .settings .catalogue .0) t
     → {b : Tally} {u : Tables} {bytes es : List ℕ} → Goes a t b u bytes es → Comes a t b u bytes es
-unfolding run totals events readOf
+unfolding run totals events readOf liftsOf
 in-parts a t s l here =
     record {
       qs = [];
       reads = refl;
-      at-once = record { tally = stands a a t (stateOf a t) (totalsOf a) refl refl refl s; shelf = refl; events = refl; past = refl };
+      at-once = record { tally = stands a a t (a .lifts) (wholeOf a t) (totalsOf a) refl refl refl refl s; state = refl; events = refl; past = refl };
       sound = s;
       long = l;
     }
@@ -176,12 +177,12 @@ carried-in-parts a t h s l {b} {b′} {u} {u′} f g =
     let x = in-parts a t s l f in
     let y = in-parts a t s l g in
     let qs : x .qs ≡ y .qs = good-one (sym (x .reads) ∙ y .reads) in
-    let tally : b ≡ b′ = x .at-once .tally ∙ ap (λ (q : List Request). tallyOf a (runFrom a t q)) qs ∙ sym (y .at-once .tally) in
+    let tally : b ≡ b′ = x .at-once .tally ∙ ap (λ (q : List Request). tallyOf a (liftsFrom a t q) (runFrom a t q)) qs ∙ sym (y .at-once .tally) in
     record {
       tally = tally;
       events = x .at-once .events ∙ ap (λ (q : List Request). eventsOf q (runFrom a t q)) qs ∙ sym (y .at-once .events);
       needed =
           one-shelf (a .settings) h b u u′ (ap (λ (z : Tally). z .settings) (x .at-once .tally)) (x .sound) (subst (λ (z : Tally). Sound z u′) (sym tally) (y .sound)) (x .long) (y .long)
-          (x .at-once .shelf ∙ ap (λ (q : List Request). runFrom a t q .state .shelf) qs ∙ sym (y .at-once .shelf));
+          (x .at-once .state ∙ ap (λ (q : List Request). runFrom a t q .state) qs ∙ sym (y .at-once .state) ∙ ap (λ (z : Tally). wholeOf z u′) (sym tally));
       past = x .at-once .past ∙ sym (y .at-once .past);
     }

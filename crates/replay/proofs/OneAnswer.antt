@@ -2,20 +2,21 @@
 use mathlib.Core.Path.{_≡_, refl, sym, ap, _∙_, subst}
 use mathlib.Core.Bool.{Bool, true}
 use mathlib.Core.List.{List, [], _∷_}
-use Prim.Native.Nat.{ℕ}
+use Prim.Native.Nat.{ℕ, _*_}
 use lib.ListN.{length}
 use lib.Seq.{sets}
-use Rattle.amounts.specs.Limits.{noPlace}
+use Rattle.amounts.specs.Limits.{noPlace, lift}
 use Rattle.amounts.specs.Settings.{inRange}
 use Rattle.amounts.specs.Requests.{Request}
 use Rattle.amounts.specs.declared.settings.Settings.{Settings}
 use Rattle.card.specs.Card.{done}
 use Rattle.method.specs.Method.{State, Run, run, step}
+use Rattle.method.specs.Whole.{whole, liftsOf}
 use Rattle.trace.specs.declared.answer.Answer.{Answer}
 use Rattle.trace.specs.declared.answer.Answer.the-variants.{Done, Refused}
 use Rattle.trace.proofs.OneAnswer.{answer-one}
 use Rattle.tables.specs.Tables.{Tables, Long, needed, shelfOf}
-use Rattle.tables.specs.Tally.{storeOf, policyIn, freshTally}
+use Rattle.tables.specs.Tally.{storeOf, policyIn, wholeOf, freshTally}
 use Rattle.tables.specs.Start.{long, Freshly}
 use Rattle.tables.specs.Sound.{Sound, Linked, Queued}
 use Rattle.tables.specs.Renaming.{Renamed}
@@ -23,24 +24,26 @@ use Rattle.tables.specs.declared.start.Started.{Started}
 use Rattle.tables.specs.declared.tally.Tally.{Tally}
 use Rattle.tables.proofs.Lengths.{long-of}
 use Rattle.tables.proofs.Lists.{length-filled}
+use Rattle.tables.proofs.Near.{near-one}
 use Rattle.tables.proofs.Ranges.{bounded}
 use Rattle.tables.proofs.Renamings.{renamed}
 use Rattle.tables.proofs.Shelves.{fresh-shelf}
 use Rattle.tables.proofs.Twins.{fresh-done, freshly-sound, twins}
 use Rattle.refusing.specs.Judging.{requestsIn, fitting, settled}
-use Rattle.parts.specs.Parts.{runFrom, tallyOf, eventsOf}
+use Rattle.parts.specs.Parts.{runFrom, liftsFrom, tallyOf, eventsOf}
 use Rattle.replay.specs.Carrying.{Runs, Answers, Carries}
 use Rattle.replay.specs.Agreeing.{Left, Same, Alike}
 use Rattle.replay.specs.declared.carry.Carried.{Carried}
 use Rattle.replay.proofs.Cases.{due, dueHere, due-sound, answers, sure, past}
 
--- ---- sound tables of one tally that stand for one shelf
+-- ---- sound tables of one tally that stand for one whole state
 
 -- are the same but for a renaming of places and the queue's order
 pub one-shelf : (s : Settings) → inRange s ≡ true → (a : Tally) (u u′ : Tables) → a .settings ≡ s → Sound a u → Sound a u′
-    → Long (s .places .0) (s .catalogue .0) u → Long (s .places .0) (s .catalogue .0) u′ → shelfOf (s .catalogue .0) u ≡ shelfOf (s .catalogue .0) u′ → Renamed s (a .«files_kept») u u′
+    → Long (s .places .0) (s .catalogue .0) u → Long (s .places .0) (s .catalogue .0) u′ → wholeOf a u ≡ wholeOf a u′ → Renamed s (a .«files_kept») u u′
 one-shelf s h a u u′ e f g l l′ same =
-    renamed s (bounded s h .places .1) u u′ l l′ (subst (λ (x : Settings). Linked x u) e (f .linked)) (subst (λ (x : Settings). Linked x u′) e (g .linked)) same (a .«files_kept»)
+    renamed s (bounded s h .places .1) u u′ l l′ (subst (λ (x : Settings). Linked x u) e (f .linked)) (subst (λ (x : Settings). Linked x u′) e (g .linked))
+    (subst (λ (x : Settings). shelfOf (x .catalogue .0) u ≡ shelfOf (x .catalogue .0) u′) e (near-one a u u′ same)) (a .«files_kept»)
     (subst (λ (x : Settings). Queued x (a .«files_kept») u) e (f .queued))
     (subst (λ (x : Settings). Queued x (a .«files_kept») u′) e (g .queued))
 
@@ -49,14 +52,20 @@ one-shelf s h a u u′ e f g l l′ same =
 module _ (a : Tally) (t t′ : Tables) (e : shelfOf (a .settings .catalogue .0) t ≡ shelfOf (a .settings .catalogue .0) t′)
     (n : needed (a .settings .places .0) (a .settings .catalogue .0) t ≡ needed (a .settings .places .0) (a .settings .catalogue .0) t′)
     (told part : List ℕ) (r r′ : Carried) (u u′ : Tables) (now now′ : List ℕ) where
+  same-whole : wholeOf a t ≡ wholeOf a t′
+  same-whole = λ i. whole (a .lifts * lift) (record { inflation = a .inflation .0; shelf = e i; stamp = a .requests })
+
   same-run : (qs : List Request) → runFrom a t qs ≡ runFrom a t′ qs
-  same-run qs = λ i. run (step (policyIn (a .settings)) (storeOf (a .settings))) (record { inflation = a .inflation .0; shelf = e i; stamp = a .requests }) qs
+  same-run qs = ap (λ (st : State). run (step (policyIn (a .settings)) (storeOf (a .settings))) st qs) same-whole
+
+  same-lifts : (qs : List Request) → liftsFrom a t qs ≡ liftsFrom a t′ qs
+  same-lifts qs = ap (λ (st : State). liftsOf (step (policyIn (a .settings)) (storeOf (a .settings))) (a .lifts) st qs) same-whole
 
   same-done : (qs : List Request) → inRange (a .settings) ≡ true → Runs qs a t told r u now → Runs qs a t′ told r′ u′ now′ → Same (a .settings) r r′ u u′ now now′
   same-done qs h f g =
       let x = same-run qs in
-      let tally : r .tally ≡ r′ .tally = f .tally ∙ ap (tallyOf a) x ∙ sym (g .tally) in
-      let shelf = f .shelf ∙ ap (λ (y : Run State). y .state .shelf) x ∙ sym (g .shelf) in
+      let tally : r .tally ≡ r′ .tally = f .tally ∙ (λ i. tallyOf a (same-lifts qs i) (x i)) ∙ sym (g .tally) in
+      let state : wholeOf (r .tally) u ≡ wholeOf (r .tally) u′ = f .state ∙ ap (λ (y : Run State). y .state) x ∙ sym (g .state) ∙ ap (λ (y : Tally). wholeOf y u′) (sym tally) in
       let is : r .answer ≡ Done (length (eventsOf qs (runFrom a t qs))) = answer-one _ _ (f .answer) in
       record {
         answer = is ∙ sym (answer-one _ _ (g .answer ∙ ap (λ (y : Run State). done (length (eventsOf qs y) ∷ [])) (sym x)));
@@ -64,7 +73,7 @@ module _ (a : Tally) (t t′ : Tables) (e : shelfOf (a .settings .catalogue .0) 
         events = f .written ∙ ap (λ (y : Run State). sets told 0 (eventsOf qs y)) x ∙ sym (g .written);
         needed =
             subst (Left (a .settings) (r .tally .«files_kept») u u′) (sym is)
-            (one-shelf (a .settings) h (r .tally) u u′ (ap (λ (y : Tally). y .settings) (f .tally)) (f .sound) (subst (λ (y : Tally). Sound y u′) (sym tally) (g .sound)) (f .long) (g .long) shelf);
+            (one-shelf (a .settings) h (r .tally) u u′ (ap (λ (y : Tally). y .settings) (f .tally)) (f .sound) (subst (λ (y : Tally). Sound y u′) (sym tally) (g .sound)) (f .long) (g .long) state);
       }
 
   same-answers : (z : Answer) → ((k : ℕ) → z ≡ Done k → inRange (a .settings) ≡ true) → Answers a t told r u now part z → Answers a t′ told r′ u′ now′ part z → Same (a .settings) r r′ u u′ now now′

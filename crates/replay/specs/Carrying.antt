@@ -10,7 +10,8 @@ use Rattle.card.specs.declared.Refusal.the-variants.{Unsound}
 use Rattle.trace.specs.Cards.{answerCard}
 use Rattle.trace.specs.declared.answer.Answer.{Answer}
 use Rattle.trace.specs.declared.answer.Answer.the-variants.{Done, Refused}
-use Rattle.tables.specs.Tables.{Tables, Long, shelfOf}
+use Rattle.tables.specs.Tables.{Tables, Long}
+use Rattle.tables.specs.Tally.{wholeOf}
 use Rattle.tables.specs.Start.{long}
 use Rattle.tables.specs.Sound.{Sound}
 use Rattle.tables.specs.declared.tally.Tally.{Tally}
@@ -18,7 +19,7 @@ use Rattle.serving.specs.Serving.{beyondOf}
 use Rattle.refusing.specs.Judging.{requestsIn, fitting, settled}
 use Rattle.refusing.specs.declared.settings.Settled.{Settled}
 use Rattle.refusing.specs.declared.settings.Settled.the-variants as verdict
-use Rattle.parts.specs.Parts.{runFrom, tallyOf, eventsOf}
+use Rattle.parts.specs.Parts.{runFrom, liftsFrom, tallyOf, eventsOf}
 use Rattle.replay.specs.declared.carry.Carried.{Carried}
 
 -- document 01, "Order": a refusal is decided before anything is written
@@ -28,11 +29,12 @@ pub record Refuses (card : Card) (a : Tally) (t : Tables) (told : List ℕ) (r :
   pub lent : u ≡ t
   pub untold : told′ ≡ told
 
--- document 01, "Tables and the tally": outcomes, evictions in order, events, tally and shelf are those of the method's run over the requests qs; the tables are left sound
+-- document 01, "Tables and the tally": outcomes, evictions in order, events, tally and whole state are those of the method's run over the requests qs; the tables are left sound
+-- document 02, ticket 5: its lifts too
 pub record Runs (qs : List Request) (a : Tally) (t : Tables) (told : List ℕ) (r : Carried) (u : Tables) (told′ : List ℕ) : Type 0 where
   pub answer : answerCard (r .answer) ≡ done (length (eventsOf qs (runFrom a t qs)) ∷ [])
-  pub tally : r .tally ≡ tallyOf a (runFrom a t qs)
-  pub shelf : shelfOf (a .settings .catalogue .0) u ≡ runFrom a t qs .state .shelf
+  pub tally : r .tally ≡ tallyOf a (liftsFrom a t qs) (runFrom a t qs)
+  pub state : wholeOf (r .tally) u ≡ runFrom a t qs .state
   pub sound : Sound (r .tally) u
   pub written : told′ ≡ sets told 0 (eventsOf qs (runFrom a t qs))
   pub long : Long (a .settings .places .0) (a .settings .catalogue .0) u

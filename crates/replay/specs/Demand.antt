@@ -12,16 +12,17 @@ use Rattle.method.specs.Method.{State, Run, run, step, fresh}
 use Rattle.method.specs.Events.{events}
 use Rattle.method.specs.Totals.{totals, zeros}
 use Rattle.method.specs.Credit.{Ledger, stepC, freshC}
+use Rattle.method.specs.Whole.{liftsOf}
 use Rattle.method.specs.Promise.{Held}
 use Rattle.trace.specs.Reading.{good, readOf}
 use Rattle.trace.specs.declared.answer.Answer.the-variants.{Done}
-use Rattle.tables.specs.Tables.{Tables, shelfOf}
-use Rattle.tables.specs.Tally.{storeOf, policyIn, stateOf, totalsOf, freshTally}
+use Rattle.tables.specs.Tables.{Tables}
+use Rattle.tables.specs.Tally.{storeOf, policyIn, wholeOf, totalsOf, freshTally}
 use Rattle.tables.specs.Start.{long, Freshly}
 use Rattle.tables.specs.declared.start.Started.{Started}
 use Rattle.tables.specs.declared.tally.Tally.{Tally}
 use Rattle.serving.specs.Serving.{beyondOf}
-use Rattle.parts.specs.Parts.{runFrom, tallyOf, eventsOf}
+use Rattle.parts.specs.Parts.{runFrom, liftsFrom, tallyOf, eventsOf}
 use Rattle.replay.specs.Carrying.{Carries}
 use Rattle.replay.specs.declared.carry.Carried.{Carried}
 
@@ -31,10 +32,10 @@ pub data Goes (a : Tally) (t : Tables) : Tally → Tables → List ℕ → List 
   on : (b : Tally) (u w : Tables) (bytes es told told′ part : List ℕ) (r : Carried) (unit n : ℕ)
       → Goes a t b u bytes es → Carries b u told r w told′ unit part → r .answer ≡ Done n → Goes a t (r .tally) w (bytes ++ part) (es ++ take n told′)
 
--- document 01, "Tables and the tally": in parts and at once: tally, shelf, events and what lies past the needed lengths are those of one run over the requests qs
+-- document 01, "Tables and the tally": in parts and at once: tally, whole state, events and what lies past the needed lengths are those of one run over the requests qs
 pub record AtOnce (a : Tally) (t : Tables) (b : Tally) (u : Tables) (qs : List Request) (es : List ℕ) : Type 0 where
-  pub tally : b ≡ tallyOf a (runFrom a t qs)
-  pub shelf : shelfOf (a .settings .catalogue .0) u ≡ runFrom a t qs .state .shelf
+  pub tally : b ≡ tallyOf a (liftsFrom a t qs) (runFrom a t qs)
+  pub state : wholeOf b u ≡ runFrom a t qs .state
   pub events : es ≡ eventsOf qs (runFrom a t qs)
   pub past : beyondOf (a .settings) u ≡ beyondOf (a .settings) t
 
@@ -60,7 +61,9 @@ pub record Holds (s : Settings) (a : Tally) (t : Tables) (bytes es : List ℕ) :
   pub qs : List Request
   pub reads : readOf (length bytes) (s .catalogue .0) bytes ≡ good qs
   pub settings : a .settings ≡ s
-  pub state : stateOf a t ≡ soFar s qs .state
+  -- document 02, ticket 5: whole inflation and whole keys, and as many lifts as the run has
+  pub state : wholeOf a t ≡ soFar s qs .state
+  pub lifts : a .lifts ≡ liftsOf (step (policyIn s) (storeOf s)) 0 (fresh (storeOf s)) qs
   pub counts : totalsOf a ≡ totals zeros (soFar s qs .replies)
   pub events : es ≡ events qs (soFar s qs .replies)
   pub few : length qs ≤ requestsMost

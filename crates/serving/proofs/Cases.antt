@@ -9,17 +9,16 @@ use lib.Dec.{leb}
 use lib.ListN.{getD, set}
 use lib.Seq.{getD-set-same, set-getD}
 use borrow.Author.Tests.{leb-true, leb-false, not-true, not-false, lt-ltb}
-use Rattle.amounts.specs.Limits.{noPlace}
+use Rattle.amounts.specs.Limits.{noPlace, word}
 use Rattle.amounts.specs.Requests.{Request}
 use Rattle.amounts.specs.declared.settings.Settings.{Settings}
 use Rattle.amounts.proofs.Tests.{pick-true}
 use Rattle.queue.proofs.Index.{held-entry}
 use Rattle.method.specs.Method.{State, Served, keyed, again, hit}
-use Rattle.method.specs.Promise.{Small, Fine}
-use Rattle.method.specs.Shelf.{Kept, none, kept, Shelf}
+use Rattle.method.specs.Promise.{Fine}
+use Rattle.method.specs.Shelf.{Kept, none, kept, Shelf, Each}
 use Rattle.method.specs.declared.outcome.Outcome.the-variants.{Hit, Passed}
 use Rattle.method.specs.declared.outcome.Pass.the-variants.{TooBig}
-use Rattle.method.proofs.Shelves.{sum-at}
 use Rattle.tables.specs.Sound.{At, Occupied}
 use Rattle.tables.specs.Tables.{Tables, Long, tables, recordAt, shelfOf}
 use Rattle.tables.specs.Tally.{policyIn, stampOf, totalsOf}
@@ -86,15 +85,15 @@ module _ {a : Tally} {q : Request} {t : Tables} {entry free events : List ℕ} {
   hittable : Hittable a p (t .size) (t .cost) (t .freq) (t .key) (t .stamp) (t .queue) entry
   hittable =
       let l = h .running .long in
-      let z : Small (struck .state) = subst (λ (x : Served State). Small (x .state)) hits-as (meetings.small-after h) in
+      let z : Each (λ r. r .key < word) (struck .state .shelf) = subst (λ (x : Served State). Each (λ r. r .key < word) (x .state .shelf)) hits-as (meetings.keys-after h) in
       record {
         sized = omega (arith, at-p .inside, l .size);
         costed = omega (arith, at-p .inside, l .cost);
         counted = omega (arith, at-p .inside, l .freq);
         entered = omega (arith, at-p .inside, h .running .entry-long);
         valued = fine .valued;
-        few = omega (arith, sum-at (λ r. r .freq) shelf (q .file) old slot-old, meetings.sound h .freqs, h .few);
-        fits = z .keys (q .file) new (getD-set-same shelf (q .file) (kept new) none (meetings.slot-in h));
+        seldom = fine .seldom;
+        fits = z (q .file) new (getD-set-same shelf (q .file) (kept new) none (meetings.slot-in h));
         holding = record { whole = meetings.live (h .running) .whole; inside = held .0 };
         countable = record { few = h .few; agreed = h .running .sound .agreed; valued = fine .valued };
       }

@@ -4,3 +4,4 @@ pub mod Cases
 pub mod Writing
 pub mod Cleanings
 pub mod Servings
+pub mod Seasons

@@ -1,14 +1,15 @@
 -- One request served: its own entry is told beside what was decided, and the tables are sound again. Assumes nothing.
 use mathlib.Core.Path.{_≡_, sym, ap, _∙_, subst}
 use mathlib.Core.List.{List, [], _∷_, map, append-assoc}
-use Prim.Native.Nat.{ℕ, _+_, _≤_}
+use Prim.Native.Nat.{ℕ, _+_, _≤_, _<_}
 use native.Mathlib.Omega.{arith}
 use lib.ListN.{length, set, length-append, length-map}
 use lib.Seq.{sets}
+use Rattle.amounts.specs.Limits.{lift}
 use Rattle.amounts.specs.Worth.{inForce}
 use Rattle.amounts.specs.Requests.{Request}
 use Rattle.method.specs.Method.{State, Served, step}
-use Rattle.method.specs.Events.{event, kind, stale, evict, answered}
+use Rattle.method.specs.Events.{event, kind, stale, evict, answered, entries}
 use Rattle.method.specs.declared.outcome.Pass.the-variants.{TooBig, LowKey}
 use Rattle.method.specs.declared.outcome.Outcome.{Outcome}
 use Rattle.method.specs.declared.outcome.Outcome.the-variants.{Hit, Admitted, Passed}
@@ -20,11 +21,20 @@ use Rattle.dropping.specs.Cleaning.{oldIn, Cleanable, Cleans}
 use Rattle.dropping.specs.declared.stale.Cleaned.{Cleaned}
 use Rattle.admitting.specs.Deciding.{Gives, Met, meets, asked}
 use Rattle.admitting.specs.declared.untold.Untold.{Untold}
-use Rattle.serving.specs.Serving.{Serves, Stepped, Servable}
+use Rattle.serving.specs.Serving.{Servable, Running}
 use Rattle.serving.specs.declared.step.Step.{Step}
 use Rattle.serving.proofs.Writing.{sets-append}
 use Rattle.serving.proofs.Cleanings.{toldBy, joins}
 use Rattle.serving.proofs.Runnings.{running-next}
+
+-- document 01, "The run": x is what the method gives for the request q from what the words say; r, and what is left, is the same
+abbrev Serves : Tally → Request → Tables → List ℕ → ℕ → Served State → Step → Tables → List ℕ → List ℕ → List ℕ → Type 0
+Serves a q t events at x r u entry′ free′ events′ = Gives a t events at x (entries q (x .reply)) (r .outcome) (r .tally) (r .events) u entry′ free′ events′
+
+-- the request served below one lift, and sound tables again
+pub record Near (a : Tally) (q : Request) (t : Tables) (events : List ℕ) (at : ℕ) (r : Step) (u : Tables) (entry′ free′ events′ : List ℕ) : Type 0 where
+  pub serves : Serves a q t events at (step (policyIn (a .settings)) (storeOf (a .settings)) (stateOf a t) q) r u entry′ free′ events′
+  pub running : Running (r .tally) u entry′ free′
 
 pub kind-most : (o : Outcome) → kind o ≤ 6
 kind-most Hit = omega arith
@@ -80,8 +90,8 @@ module _ {a : Tally} {q : Request} {t : Tables} {entry free events : List ℕ} {
         let x = given .reply in
         omega (arith, h .room, both .count, both .few, length-append (stale (q .file) (x .dropped)) (map evict (x .evicted)), length-stale (q .file) (x .dropped), length-map (x .evicted) evict)
 
-    pub stepped : {v : ℕ} → v ≡ event (kind (r .outcome)) (q .file) → Stepped a q t events at (told r) u entry′ free′ (set events′ (r .due) v)
-    stepped {v} e =
+    pub near : a .inflation .0 < lift → {v : ℕ} → v ≡ event (kind (r .outcome)) (q .file) → Near a q t events at (told r) u entry′ free′ (set events′ (r .due) v)
+    near ready {v} e =
         let y : Serves a q t events at given (told r) u entry′ free′ (set events′ (r .due) v) =
         subst (λ (w : ℕ). Serves a q t events at given (told r) u entry′ free′ (set events′ (r .due) w)) (sym e) (own-entry q both) in
-        record { serves = y; running = running-next a t entry free (h .running) q (h .ranged) (h .few) y }
+        record { serves = y; running = running-next a t entry free (h .running) q (h .ranged) (h .few) ready y }

@@ -1,4 +1,4 @@
-// One request: a stale copy goes first, then it is decided by the file number alone and told in the event list.
+// One request: the lift that may be due and a stale copy go first, then it is decided by the file number alone and told in the event list.
 use crate::step::Step;
 use admitting::Untold;
 use admitting::admit;
@@ -8,6 +8,7 @@ use amounts::Places;
 use counting::with_pass;
 use dropping::drop_stale;
 use hitting::hit;
+use lifting::lift;
 use method::Outcome;
 use method::Pass;
 use method::event;
@@ -74,7 +75,7 @@ fn meet(
     )
 }
 
-// Serves a request for file f, of size z and cost w, and writes its events from `at` on: a stale copy, the evictions, and its own entry, which is that of its outcome.
+// Serves a request for file f, of size z and cost w, after the lift that may be due, and writes its events from `at` on: a stale copy, the evictions, and its own entry, which is that of its outcome.
 pub fn serve(
     a: Tally,
     f: usize,
@@ -96,8 +97,9 @@ pub fn serve(
     requires { ⌜ Servable a (asked f (z .0) (w .0)) (tables (now place) (now file) (now size) (now cost) (now freq) (now key) (now stamp) (now queue)) (now entry) (now free) (now events) at ⌝ }
     ensures { λ r. ⌜ Stepped a (asked f (z .0) (w .0)) (tables (now (place .entry)) (now (file .entry)) (now (size .entry)) (now (cost .entry)) (now (freq .entry)) (now (key .entry)) (now (stamp .entry)) (now (queue .entry))) (now (events .entry)) at r (tables (now (place .exit)) (now (file .exit)) (now (size .exit)) (now (cost .exit)) (now (freq .exit)) (now (key .exit)) (now (stamp .exit)) (now (queue .exit))) (now (entry .exit)) (now (free .exit)) (now (events .exit)) ⌝ }
 {
+    let lifted = lift(a, queue, key);
     let cleaned = drop_stale(
-        a,
+        lifted,
         f,
         z,
         place,

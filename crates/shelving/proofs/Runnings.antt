@@ -8,6 +8,7 @@ use Rattle.queue.proofs.Index.{distinct}
 use Rattle.tables.specs.Tables.{Tables, shelfOf}
 use Rattle.tables.specs.declared.tally.Tally.{Tally}
 use Rattle.tables.proofs.Ranges.{Bounded, bounded}
+use Rattle.tables.proofs.Near.{near}
 use Rattle.shelving.specs.Live.{Live, Stack, Running}
 use Rattle.shelving.specs.Room.{queueBytes}
 use Rattle.shelving.specs.Evicting.{withQueue}
@@ -20,7 +21,7 @@ module _ {a : Tally} {t : Tables} {entry free : List ℕ} (h : Running a t entry
 
   pub live : Live (a .settings) (a .«files_kept») (a .«files_kept») t entry
   live =
-      let few : a .«files_kept» ≤ a .settings .places .0 = omega (arith, h .sound .files, h .sound .shelf .files) in
+      let few : a .«files_kept» ≤ a .settings .places .0 = omega (arith, h .sound .files, near (h .sound) .files) in
       let inside : (i : ℕ) → i < a .«files_kept» → getD (t .queue) i 0 < a .settings .places .0 = λ i b. h .sound .queued .entries i b .inside in
       record {
         places = limits .places .1;

@@ -23,7 +23,7 @@ use Rattle.tables.specs.Tables.{Tables}
 use Rattle.tables.specs.Start.{long, startTables}
 use Rattle.ratios.specs.Ratios.{RatioCard, giving, refusing, Rates}
 use Rattle.ratios.specs.declared.answer.Ratios.{Ratios}
-use Rattle.ratios.proofs.Rating.{Case, empty, broken, whole, case-of}
+use Rattle.ratios.proofs.Rating.{Case, empty, broken, past, whole, case-of}
 use Rattle.refusing.specs.declared.settings.Settled.{Settled}
 use Rattle.refusing.specs.declared.settings.Settled.the-variants as verdict
 use Rattle.replay.specs.Carrying.{Answers}
@@ -109,7 +109,8 @@ module _ (l : List Float) (r : ℕ) (n : r % 256 ≡ 0 → ⊥) (l′ : List Flo
       rated : Case (tallyIn w) → Rates (tallyIn w) (f .due) → l′ ≡ l
       rated (empty e) p = refusing-still (f .due) (refused 11 []) (p .none e) (f .put)
       rated (broken m nc) p = refusing-still (f .due) (refused 7 []) (p .unsound m nc) (f .put)
-      rated (whole m h) p = giving-still (f .due) _ (p .rated m h) (f .put)
+      rated (past m h k) p = refusing-still (f .due) (refused 12 []) (p .inexact m h k) (f .put)
+      rated (whole m h k) p = giving-still (f .due) _ (p .rated m h k) (f .put)
 
       go : (b : Bool) → RatesWords w (f .due) b → l′ ≡ l
       go false p = refusing-still (f .due) (refused 2 []) p (f .put)

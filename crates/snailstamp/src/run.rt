@@ -19,7 +19,7 @@ ghost use Rattle.snailstamp.specs.Steps.{PutStarted, PutCarried};
 ghost use Rattle.snailstamp.specs.Run.{FreshWords, CarriedWords};
 
 // The words of a tally.
-pub(crate) const TALLY_WORDS: usize = 18;
+pub(crate) const TALLY_WORDS: usize = 19;
 
 // The answer of a fresh start; where it was not refused, its tally over the front of the words.
 fn put_started(started: Started, out: &mut [u64]) -> u64

@@ -14,9 +14,10 @@ use Rattle.method.specs.Method.{fresh}
 use Rattle.method.specs.Promise as promise
 use Rattle.method.proofs.Shelves.{sum-none}
 use Rattle.method.proofs.Sound as method
+use Rattle.method.proofs.Raising.{whole-sound}
 use Rattle.method.proofs.Agreement.{zeros-agreed}
 use Rattle.tables.specs.Tables.{Tables, shelfOf, cleared, filled}
-use Rattle.tables.specs.Tally.{storeOf, policyIn, freshTally}
+use Rattle.tables.specs.Tally.{storeOf, policyIn, stateOf, freshTally}
 use Rattle.tables.specs.Sound.{Occupied, Zero, Sound}
 use Rattle.tables.proofs.Lists.{at-filled}
 use Rattle.tables.proofs.Shelves.{fresh-shelf}
@@ -43,14 +44,18 @@ module _ (s : Settings) (t : Tables) (h : inRange s ≡ true) where
   shelf-is : shelfOf (s .catalogue .0) u ≡ fresh (storeOf s) .shelf
   shelf-is = fresh-shelf (s .places .0) (s .catalogue .0) t
 
+  near : promise.SoundAt (policyIn s) (storeOf s) (stateOf (freshTally s) u) 0
+  near = subst (λ (x : Shelf). promise.Sound (policyIn s) (storeOf s) 0 x 0 0) (sym shelf-is) (method.fresh-sound (policyIn s) (storeOf s))
+
   pub fresh-sound : Sound (freshTally s) (cleared (s .places .0) (s .catalogue .0) t)
   fresh-sound = record {
     agreed = zeros-agreed;
     few = omega arith;
+    low = omega arith;
     linked = record { out = λ f l. inl (unplaced f l); unused = λ p l _. zero p l };
     queued = record { entries = λ i l. absurd (omega arith); once = λ p o. absurd (unoccupied p o); rest = λ i _ l. zero-at (t .queue) i l };
     ordered = record { order = λ i _ l. absurd (omega arith) };
-    shelf = subst (λ (x : Shelf). promise.Sound (policyIn s) (storeOf s) 0 x 0 0) (sym shelf-is) (method.fresh-sound (policyIn s) (storeOf s));
+    shelf = whole-sound (policyIn s) (storeOf s) 0 (stateOf (freshTally s) u) 0 near (omega (arith, near .total));
     files = ap files shelf-is ∙ method.fresh-files (storeOf s);
     bytes = ap bytes shelf-is ∙ sum-none (λ r. r .size) (fresh (storeOf s) .shelf) (omega (arith, method.fresh-files (storeOf s)));
   }

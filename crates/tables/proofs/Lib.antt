@@ -4,6 +4,7 @@ pub mod Lengths
 pub mod Ranges
 pub mod Shelves
 pub mod Starting
+pub mod Near
 pub mod FreshSound
 pub mod Counting
 pub mod Twins

@@ -4,7 +4,7 @@ use mathlib.Core.Logic.{_⊎_, inl}
 use mathlib.Core.List.{List, [], _∷_}
 use Prim.Native.Nat.{ℕ, suc, _+_, _*_, _≤_, _<_}
 use lib.ListN.{length, getD}
-use Rattle.amounts.specs.Limits.{sizeMost, costMost, requestsMost, noPlace}
+use Rattle.amounts.specs.Limits.{sizeMost, costMost, requestsMost, frequencyMost, lift, noPlace}
 use Rattle.amounts.specs.Worth.{Valued, worthMost}
 use Rattle.amounts.specs.declared.settings.Settings.{Settings}
 use Rattle.amounts.proofs.Tests.{same}
@@ -15,7 +15,7 @@ use Rattle.method.specs.Totals.{Totals, Amount, Counts, Agreed}
 use Rattle.method.specs.Promise as promise
 use Rattle.method.proofs.Shelves.{none-kept, is-kept, kept-lt, each-cons}
 use Rattle.tables.specs.Tables.{Tables}
-use Rattle.tables.specs.Tally.{storeOf, policyIn, totalsOf, stateOf}
+use Rattle.tables.specs.Tally.{storeOf, policyIn, totalsOf, stateOf, wholeOf}
 use Rattle.tables.specs.Sound.{Counted, At, Occupied, Zero, Linked, Queued, Sound}
 use Rattle.tables.specs.declared.tally.Tally.{Tally}
 use Rattle.tables.proofs.Deciding.{Decided, decide-as, decide-both, decide-either, decide-if, decide-not, decide-le, decide-lt, decide-false, all-below}
@@ -102,8 +102,8 @@ valued size cost =
 
 fine : (p : method.Policy) (r : Kept) → Decided (promise.Fine p r)
 fine p r =
-    decide-as (λ x. record { valued = x .0; freq = x .1 .0; once = x .1 .1 }) (λ v. (v .valued, (v .freq, v .once)))
-    (decide-both (valued (r .size) (r .cost)) (decide-both (decide-le 1 (r .freq)) (once p (r .freq))))
+    decide-as (λ x. record { valued = x .0; freq = x .1 .0; seldom = x .1 .1 .0; once = x .1 .1 .1 }) (λ v. (v .valued, (v .freq, (v .seldom, v .once))))
+    (decide-both (valued (r .size) (r .cost)) (decide-both (decide-le 1 (r .freq)) (decide-both (decide-le (r .freq) frequencyMost) (once p (r .freq)))))
 
 -- two slots do not share a stamp, unless they are one
 abbrev Differ : ℕ → ℕ → Slot → Slot → Type 0
@@ -155,18 +155,20 @@ sound-decided a t =
     (λ x. record {
       agreed = x .0;
       few = x .1 .0;
-      linked = x .1 .1 .0;
-      queued = x .1 .1 .1 .0;
-      ordered = x .1 .1 .1 .1 .0;
-      shelf = x .1 .1 .1 .1 .1 .0;
-      files = x .1 .1 .1 .1 .1 .1 .0;
-      bytes = x .1 .1 .1 .1 .1 .1 .1;
+      low = x .1 .1 .0;
+      linked = x .1 .1 .1 .0;
+      queued = x .1 .1 .1 .1 .0;
+      ordered = x .1 .1 .1 .1 .1 .0;
+      shelf = x .1 .1 .1 .1 .1 .1 .0;
+      files = x .1 .1 .1 .1 .1 .1 .1 .0;
+      bytes = x .1 .1 .1 .1 .1 .1 .1 .1;
     })
-    (λ s. (s .agreed, (s .few, (s .linked, (s .queued, (s .ordered, (s .shelf, (s .files, s .bytes))))))))
+    (λ s. (s .agreed, (s .few, (s .low, (s .linked, (s .queued, (s .ordered, (s .shelf, (s .files, s .bytes)))))))))
     (decide-both (agreed (a .«files_kept») (totalsOf a))
     (decide-both (decide-le (a .requests) requestsMost)
+    (decide-both (decide-lt (a .inflation .0) (2 * lift))
     (decide-both (linked (a .settings) t)
     (decide-both (queued (a .settings) t (a .«files_kept»))
     (decide-both (ordered (t .queue) (t .key) (t .stamp) (a .«files_kept»))
-    (decide-both (sums (policyIn (a .settings)) (storeOf (a .settings)) (a .inflation .0) (stateOf a t .shelf) (a .requests) (a .requests))
-    (decide-both (same (files (stateOf a t .shelf)) (a .«files_kept»)) (same (bytes (stateOf a t .shelf)) (a .«bytes_kept» .0)))))))))
+    (decide-both (sums (policyIn (a .settings)) (storeOf (a .settings)) (wholeOf a t .inflation) (wholeOf a t .shelf) (a .requests) (a .requests))
+    (decide-both (same (files (stateOf a t .shelf)) (a .«files_kept»)) (same (bytes (stateOf a t .shelf)) (a .«bytes_kept» .0))))))))))

@@ -45,6 +45,7 @@ tallyOf v =
       «cost_asked» = record { 0 = getD v 15 0 };
       «hit_cost» = record { 0 = getD v 16 0 };
       dropped = getD v 17 0;
+      lifts = getD v 18 0;
     }
 
 abbrev startedWith : List ℕ → Started

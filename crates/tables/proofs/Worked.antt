@@ -10,6 +10,7 @@ use Rattle.queue.specs.Queue.{total, times}
 use Rattle.method.specs.Shelf.{Kept, Shelf, sum, Each}
 use Rattle.method.specs.Promise as promise
 use Rattle.method.proofs.Shelves.{none-kept, is-kept}
+use Rattle.method.proofs.Raising.{whole-sound}
 use Rattle.tables.specs.Tables.{recordAt, slotOf, shelfOf}
 use Rattle.tables.specs.Tally.{storeOf, policyIn, stateOf}
 use Rattle.tables.specs.Sound.{At, Occupied, Zero, Sound}
@@ -78,7 +79,7 @@ in-sums = record {
   slots = refl;
   bytes = omega arith;
   files = omega arith;
-  fine = each (promise.Fine (policyIn workedSettings)) (record { valued = in-range; freq = omega arith; once = tt });
+  fine = each (promise.Fine (policyIn workedSettings)) (record { valued = in-range; freq = omega arith; seldom = omega arith; once = tt });
   stamps = each (λ r. r .stamp < 2) (omega arith);
   apart = apart;
   freqs = omega arith;
@@ -98,10 +99,11 @@ worked = record {
     cost = record { hit-least = omega arith; hit-most = omega arith; hit-asked = omega arith; asked-least = omega arith; asked-most = omega arith };
   };
   few = omega arith;
+  low = omega arith;
   linked = record { out = out; unused = unused };
   queued = record { entries = entries; once = once; rest = rest };
   ordered = record { order = λ i p l. absurd (omega arith) };
-  shelf = in-sums;
+  shelf = whole-sound (policyIn workedSettings) (storeOf workedSettings) 0 (stateOf workedTally workedTables) 2 in-sums (omega (arith, in-sums .total));
   files = refl;
   bytes = refl;
 }

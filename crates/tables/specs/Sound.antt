@@ -3,21 +3,25 @@ use mathlib.Core.Path.{_≡_}
 use mathlib.Core.Logic.{_⊎_}
 use mathlib.Core.Bool.{Bool, true, false}
 use mathlib.Core.List.{List}
-use Prim.Native.Nat.{ℕ, _+_, _≤_, _<_}
+use Prim.Native.Nat.{ℕ, _+_, _*_, _≤_, _<_}
 use lib.ListN.{length, getD}
-use Rattle.amounts.specs.Limits.{requestsMost, noPlace}
+use Rattle.amounts.specs.Limits.{requestsMost, lift, noPlace}
 use Rattle.amounts.specs.declared.settings.Settings.{Settings}
 use Rattle.queue.specs.Queue.{times, Ordered, Indexed}
 use Rattle.method.specs.Shelf.{bytes, files}
 use Rattle.method.specs.Totals.{Counts, Agreed}
 use Rattle.method.specs.Promise.{SoundAt}
 use Rattle.tables.specs.Tables.{Tables}
-use Rattle.tables.specs.Tally.{storeOf, policyIn, totalsOf, stateOf}
+use Rattle.tables.specs.Tally.{storeOf, policyIn, totalsOf, stateOf, wholeOf}
 use Rattle.tables.specs.declared.tally.Tally.{Tally}
 
--- document 01: at most 1,048,576 requests
+-- document 02, ticket 5: at most 4,294,967,295 requests
 abbrev pub Few : Tally → Type 0
 Few a = a .requests ≤ requestsMost
+
+-- document 02, ticket 5: L below 2 to the 61st
+abbrev pub Low : Tally → Type 0
+Low a = a .inflation .0 < 2 * lift
 
 -- document 01: hits + admitted + passed = requests, with that limit, and bytes asked and hit bytes within their bounds: what a ratio asks of a tally (document 02, ticket 3)
 pub record Counted (a : Tally) : Type 0 where
@@ -71,12 +75,13 @@ pub record Sound (a : Tally) (t : Tables) : Type 0 where
   -- hits + admitted + passed = requests, evicted + dropped + files kept = admitted (document 02, ticket 2), and the totals against their bounds
   pub agreed : Agreed (a .«files_kept») (totalsOf a)
   pub few : Few a
+  pub low : Low a
   pub linked : Linked (a .settings) t
   pub queued : Queued (a .settings) (a .«files_kept») t
   -- no entry lower than the one above it
   pub ordered : Ordered (t .queue) (t .key) (t .stamp) (a .«files_kept»)
-  -- each record in range with a stamp of its own below requests; frequencies, sizes, keys, inflation and products within their bounds
-  pub shelf : SoundAt (policyIn (a .settings)) (storeOf (a .settings)) (stateOf a t) (a .requests)
+  -- each record in range with a stamp of its own below requests; frequencies, sizes, whole keys, whole inflation and products within their bounds
+  pub shelf : SoundAt (policyIn (a .settings)) (storeOf (a .settings)) (wholeOf a t) (a .requests)
   -- files and bytes kept are those of the shelf
   pub files : files (stateOf a t .shelf) ≡ a .«files_kept»
   pub bytes : bytes (stateOf a t .shelf) ≡ a .«bytes_kept» .0

@@ -18,7 +18,7 @@ abbrev pub words : Tally → List ℕ
 words a =
     a .settings .unit .0 ∷ a .settings .policy .0 ∷ a .settings .capacity .0 ∷ a .settings .places .0 ∷ a .settings .catalogue .0
     ∷ a .inflation .0 ∷ a .«bytes_kept» .0 ∷ a .«files_kept» ∷ a .requests ∷ a .hits ∷ a .admitted ∷ a .passed ∷ a .evicted
-    ∷ a .«bytes_asked» .0 ∷ a .«hit_bytes» .0 ∷ a .«cost_asked» .0 ∷ a .«hit_cost» .0 ∷ a .dropped ∷ []
+    ∷ a .«bytes_asked» .0 ∷ a .«hit_bytes» .0 ∷ a .«cost_asked» .0 ∷ a .«hit_cost» .0 ∷ a .dropped ∷ a .lifts ∷ []
 
 -- document 01, "Numbers on the red card": the number and the values of each answer
 abbrev pub startCard : Started → Card

@@ -1,8 +1,10 @@
 -- The tally, and the state of `method` that it stands for with the tables (document 01, "Tables and the tally"). Assumes nothing.
-use Prim.Native.Nat.{ℕ}
+use Prim.Native.Nat.{ℕ, _*_}
+use Rattle.amounts.specs.Limits.{lift}
 use Rattle.amounts.specs.declared.settings.Settings.{Settings}
 use Rattle.method.specs.Method as method
 use Rattle.method.specs.Totals.{Totals}
+use Rattle.method.specs.Whole.{whole}
 use Rattle.tables.specs.Tables.{Tables, shelfOf}
 use Rattle.tables.specs.declared.tally.Tally.{Tally}
 
@@ -31,8 +33,13 @@ totalsOf a =
 abbrev pub stampOf : Tally → ℕ
 stampOf a = a .requests
 
+-- document 01, "Tables and the tally": what the words say by themselves, which is less the lifts (document 02, ticket 5)
 abbrev pub stateOf : Tally → Tables → method.State
 stateOf a t = record { inflation = a .inflation .0; shelf = shelfOf (a .settings .catalogue .0) t; stamp = stampOf a }
+
+-- document 02, ticket 5: what tally and tables stand for together, whole inflation and whole keys
+abbrev pub wholeOf : Tally → Tables → method.State
+wholeOf a t = whole (a .lifts * lift) (stateOf a t)
 
 -- document 01, "Tables and the tally": the unit, the settings and zeros
 abbrev pub freshTally : Settings → Tally
@@ -52,4 +59,5 @@ freshTally s =
       «cost_asked» = record { 0 = 0 };
       «hit_cost» = record { 0 = 0 };
       dropped = 0;
+      lifts = 0;
     }

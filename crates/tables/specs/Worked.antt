@@ -34,6 +34,7 @@ workedTally =
       «cost_asked» = record { 0 = 8 };
       «hit_cost» = record { 0 = 4 };
       dropped = 0;
+      lifts = 0;
     }
 
 -- it has place 1; place 0 is unused

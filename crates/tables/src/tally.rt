@@ -21,6 +21,7 @@ pub struct Tally {
     pub cost_asked: Cost,
     pub hit_cost: Cost,
     pub dropped: u64,
+    pub lifts: u64,
 }
 
 impl Tally {
@@ -43,6 +44,7 @@ impl Tally {
             cost_asked: Cost(0),
             hit_cost: Cost(0),
             dropped: 0,
+            lifts: 0,
         }
     }
 }

@@ -1,4 +1,5 @@
 // The totals of a tally, whatever words it holds: numbers alone, bounded before they are added or multiplied.
+use amounts::Key;
 use amounts::Requests;
 use tables::Tally;
 ghost use Prim.Native.Nat.{_≤_};
@@ -60,11 +61,14 @@ pub fn counts_agree(a: Tally) -> bool
     bytes_agree(a)
 }
 
-// Whether the totals agree with each other.
+// Whether the totals agree with each other, and inflation is below two lifts.
 pub fn totals_agree(a: Tally) -> bool
     ensures { λ r. ⌜ Exact (Numbers a) r ⌝ }
 {
     if !counts_agree(a) {
+        return false;
+    }
+    if !a.inflation.at_most(Key(Key::INFLATION_MOST)) {
         return false;
     }
     if a.admitted < a.evicted {

@@ -3,17 +3,17 @@ use mathlib.Core.Path.{_≡_, refl, sym, ap, _∙_}
 use mathlib.Core.Logic.{_⊎_, ⊎-elim}
 use mathlib.Core.Bool.{Bool, true, false}
 use mathlib.Core.List.{List, [], _∷_, _++_, map}
-use Prim.Native.Nat.{ℕ, zero, suc, _+_, _*_, _≤_, _<_}
+use Prim.Native.Nat.{ℕ, suc, _+_, _*_, _≤_, _<_}
 use native.Mathlib.Numerals.{add-one}
 use native.Mathlib.Omega.{arith}
 use native.Mathlib.Nat.{suc-mul}
 use lib.Dec.{eqb}
 use lib.ListN.{length, getD, take}
 use lib.Seq.{take-suc}
-use Rattle.amounts.specs.Limits.{pick, noPlace, requestsMost}
-use Rattle.amounts.specs.Worth.{worthMost}
-use Rattle.amounts.proofs.Tests.{same}
-use Rattle.amounts.proofs.Values.{product-most}
+use Rattle.amounts.specs.Limits.{pick, lift, noPlace}
+use Rattle.amounts.proofs.Values.{product-lift}
+use Rattle.large.specs.Large.{valueOf, Normal, Is}
+use Rattle.large.specs.declared.Large.{Large}
 use Rattle.method.specs.Shelf.{Kept, Slot, none, kept, Shelf, weigh, sum, product}
 use Rattle.tables.specs.Tables.{Tables, tables, recordAt, slotOf, shelfOf}
 use Rattle.tables.proofs.Shelves.{slot-none, slot-kept}
@@ -61,13 +61,6 @@ module _ (f : Kept → ℕ) (t : Tables) where
     pub sum-some : {v w : ℕ} → v ≡ sum f (shelfOf n t) → (getD (t .place) n 0 ≡ noPlace → ⊥) → w ≡ v + f (recordAt t (getD (t .place) n 0)) → w ≡ sum f (shelfOf (n + 1) t)
     sum-some a ne b = rw add-one (omega (arith, more-some ne))
 
-  sum-rises : (m n : ℕ) → m ≤ n → n ≤ length (t .place) → sum f (shelfOf m t) ≤ sum f (shelfOf n t)
-  sum-rises m zero h l = let e : m ≡ 0 = omega arith in rw e (omega arith)
-  sum-rises m (suc n) h l = ⊎-elim
-      (λ e. rw e (omega arith))
-      (λ ne. omega (arith, sum-rises m n (omega arith) (omega arith), sum-more n (omega arith)))
-      (same m (suc n))
-
 -- ---- a sum looks at the lists that its f reads, and at no other
 
 module _ (f g : Kept → ℕ) (t u : Tables) (like : (p : ℕ) → f (recordAt t p) ≡ g (recordAt u p)) where
@@ -105,7 +98,7 @@ module _ (g : Kept → ℕ) (most : ℕ) (t : Tables) where
     pub to-some : (getD (t .place) f 0 ≡ noPlace → ⊥) → g (recordAt t (getD (t .place) f 0)) ≤ most → w ≡ v + g (recordAt t (getD (t .place) f 0)) → SumTo (f + 1) w
     to-some ne l b = record { is = sum-some g t f h (s .is) ne b; small = rw add-one (omega (arith, s .small, suc-mul f most)) }
 
--- ---- bounds of the products
+-- ---- the products
 
 module _ (place size cost freq : List ℕ) where
   -- the tables that the sum of the products reads
@@ -120,36 +113,38 @@ module _ (place size cost freq : List ℕ) where
     freqs = h .freqs ∙ sum-same (λ k. k .freq) (λ k. k .freq) _ _ (λ p. refl) n refl;
   }
 
-  module _ (n : ℕ) (a : Weighable n place size cost freq) where
-    -- frequency × worth together is at most the frequencies together × the largest worth
-    products-most : (m : ℕ) → m ≤ n → sum product (shelfOf m weighed) ≤ sum (λ r. r .freq) (shelfOf m weighed) * worthMost
-    products-most zero l = omega (arith, sum-nobody product weighed)
-    products-most (suc m) l =
-        let h = products-most m (omega arith) in
-        let p : ℕ = getD place m 0 in
-        let b : m < length place = omega (arith, a .summable .long) in
-        let none : p ≡ noPlace → sum product (shelfOf (suc m) weighed) ≤ sum (λ r. r .freq) (shelfOf (suc m) weighed) * worthMost =
-        λ e. omega (arith, more-none product weighed m b e, more-none (λ r. r .freq) weighed m b e) in
-        ⊎-elim
-        none
-        (λ ne. ⊎-elim
-        none
-        (λ w. omega (arith, more-some product weighed m b ne, more-some (λ r. r .freq) weighed m b ne, product-most (getD freq p 0) (getD size p 0) (getD cost p 0) (w .1)))
-        (a .valued m l))
-        (same p noPlace)
-
-    module _ (few : sum (λ r. r .freq) (shelfOf n weighed) ≤ requestsMost) (f : ℕ) (h : f < n) (ne : getD place f 0 ≡ noPlace → ⊥) where
-      -- the frequencies with the file's
-      freqs-small : sum (λ r. r .freq) (shelfOf (suc f) weighed) ≤ requestsMost
-      freqs-small = omega (arith, sum-rises (λ r. r .freq) weighed (suc f) n (omega arith) (a .summable .long))
-
-      pub freq-small : getD freq (getD place f 0) 0 ≤ requestsMost
-      freq-small = omega (arith, freqs-small, more-some (λ r. r .freq) weighed f (omega (arith, a .summable .long)) ne)
-
-      -- no sum on the way passes a word
-      pub sum-small : {v w : ℕ} → v ≡ sum product (shelfOf f weighed) → w ≡ product (recordAt weighed (getD place f 0)) → v + w ≤ requestsMost * worthMost
-      sum-small d e = omega (arith, freqs-small, more-some product weighed f (omega (arith, a .summable .long)) ne, products-most (suc f) (omega arith))
-
 -- where a file has a place, what is said of that place
 pub placed : {P : Type 0} {p : ℕ} → (p ≡ noPlace → ⊥) → (p ≡ noPlace) ⊎ P → P
 placed ne x = ⊎-elim (λ e. absurd (ne e)) (λ h. h) x
+
+-- its product is below one lift
+pub product-below : {n : ℕ} {place size cost freq : List ℕ} → Weighable n place size cost freq → (f : ℕ) → f < n → (getD place f 0 ≡ noPlace → ⊥) → {m : ℕ}
+    → m ≡ product (recordAt (weighed place size cost freq) (getD place f 0)) → m < lift
+product-below {n} {place} {size} {cost} {freq} a f h ne e =
+    let p : ℕ = getD place f 0 in
+    omega (arith, e, product-lift (getD freq p 0) (getD size p 0) (getD cost p 0) (placed ne (a .valued f h) .1) (placed ne (a .seldom f h)))
+
+-- a number in two words, to which the products are added file by file: each brings at most one lift more
+module _ (start : Large) (t : Tables) where
+  pub record Adding (f : ℕ) (w : Large) : Type 0 where
+    pub is : Is (valueOf start + sum product (shelfOf f t)) w
+    pub small : sum product (shelfOf f t) ≤ f * lift
+
+  pub run-nobody : Normal start → Adding 0 start
+  run-nobody s = record { is = record { normal = s; value = omega (arith, sum-nobody product t) }; small = omega (arith, sum-nobody product t) }
+
+  module _ {f : ℕ} {w : Large} (s : Adding f w) where
+    -- its lifts are few: no more than it began with, and one for each file
+    pub run-few : Normal start → w .high ≤ start .high + f
+    run-few h = omega (arith, s .is .value, s .small)
+
+    module _ (h : f < length (t .place)) where
+      pub run-none : getD (t .place) f 0 ≡ noPlace → Adding (f + 1) w
+      run-none e =
+          let same : sum product (shelfOf f t) ≡ sum product (shelfOf (f + 1) t) = sum-none product t f h refl e refl in
+          record { is = record { normal = s .is .normal; value = omega (arith, s .is .value, same) }; small = omega (arith, s .small, same) }
+
+      pub run-some : {m : ℕ} {w′ : Large} → (getD (t .place) f 0 ≡ noPlace → ⊥) → m ≡ product (recordAt t (getD (t .place) f 0)) → m < lift → Is (valueOf w + m) w′ → Adding (f + 1) w′
+      run-some {m} ne e l x =
+          let more : sum product (shelfOf f t) + m ≡ sum product (shelfOf (f + 1) t) = sum-some product t f h refl ne (ap (λ (k : ℕ). sum product (shelfOf f t) + k) e) in
+          record { is = record { normal = x .normal; value = omega (arith, s .is .value, x .value, more) }; small = omega (arith, s .small, more) }

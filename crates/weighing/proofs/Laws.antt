@@ -2,14 +2,16 @@
 use mathlib.Core.Path.{_≡_, refl, sym, _∙_}
 use mathlib.Core.Logic.{inr, ⊎-elim}
 use mathlib.Core.Bool.{Bool, true, false}
-use Prim.Native.Nat.{ℕ, _-_, _*_, _≤_, _<_}
+use Prim.Native.Nat.{ℕ, _+_, _-_, _*_, _≤_, _<_}
 use native.Mathlib.Omega.{arith}
 use lib.Dec.{eqb, leb}
 use lib.ListN.{getD}
 use borrow.Author.Tests.{eqb-true, eq-eqb, leb-true, le-leb}
-use Rattle.amounts.specs.Limits.{noPlace}
+use Rattle.amounts.specs.Limits.{requestsMost, lift, noPlace}
 use Rattle.amounts.specs.Worth.{worthMost}
 use Rattle.amounts.specs.declared.settings.Settings.{Settings}
+use Rattle.large.specs.Large.{valueOf, Is}
+use Rattle.large.specs.declared.Large.{Large}
 use Rattle.method.specs.Shelf.{Kept, Shelf, sum, bytes, files, product}
 use Rattle.method.specs.Method.{Policy, policyOf}
 use Rattle.method.specs.Promise.{Once, Fine}
@@ -31,9 +33,9 @@ once-other policy f e = rw e (answer-yes tt)
 
 -- ---- a record
 
-pub right-last : {p : Policy} {l n : ℕ} {r : Kept} → Fine p r → r .freq ≤ n → r .stamp < n → l ≤ r .key → {d m : ℕ} {b : Bool} → d ≡ r .key - l → m ≡ product r → b ≡ leb d m → Exact (Right p l n r) b
-right-last f a b c {d} {m} u v e =
-    answer-call e (λ h. record { fine = f; few = a; stamp = b; key-least = c; key-most = omega (arith, leb-true d m h) })
+pub right-last : {p : Policy} {l n : ℕ} {r : Kept} → Fine p r → r .stamp < n → l ≤ r .key → {d m : ℕ} {b : Bool} → d ≡ r .key - l → m ≡ product r → b ≡ leb d m → Exact (Right p l n r) b
+right-last f b c {d} {m} u v e =
+    answer-call e (λ h. record { fine = f; stamp = b; key-least = c; key-most = omega (arith, leb-true d m h) })
     (λ w. le-leb d m (omega (arith, w .key-most)))
 
 -- ---- a file
@@ -53,18 +55,26 @@ module _ (s : Settings) (l n : ℕ) (t : Tables) (f : ℕ) (has : getD (t .place
 
 -- ---- the sums
 
--- by the tests, the last of inflation and the products
-pub balanced-last : (a : Tally) (s : Shelf) {y : Sums} {m d w : ℕ} {b : Bool} → Summed s y → y .files ≡ a .«files_kept» → eqb (y .bytes .0) (a .«bytes_kept» .0) ≡ true
-    → leb (a .«bytes_kept» .0) (a .settings .capacity .0) ≡ true → y .freqs ≤ a .requests → m ≡ a .requests * worthMost → leb (a .inflation .0) m ≡ true
-    → d ≡ m - a .inflation .0 → w ≡ sum product s → b ≡ leb w d → Exact (Balanced a s) b
-balanced-last a s {y} {m} {d} {w} h f k c g o l u v e =
-    let most = leb-true (a .inflation .0) m l in
-    answer-call e
-    (λ x. record {
-      files = sym (h .files) ∙ f;
-      bytes = sym (h .bytes) ∙ eqb-true (y .bytes .0) (a .«bytes_kept» .0) k;
-      fits = leb-true (a .«bytes_kept» .0) (a .settings .capacity .0) c;
-      freqs = omega (arith, h .freqs);
-      total = omega (arith, leb-true w d x);
-    })
-    (λ x. le-leb w d (omega (arith, x .total)))
+-- the largest worths of all requests together are few lifts
+pub worths-few : (n : ℕ) {most : Large} → n ≤ requestsMost → Is (n * worthMost) most → most .high ≤ 4096
+worths-few n h o = omega (arith, h, o .value)
+
+module _ (a : Tally) (s : Shelf) {most : Large} (o : Is (a .requests * worthMost) most) where
+  -- lifts beyond those of the bound are too many, whatever is beside them
+  pub balanced-lifts : most .high < a .lifts → Balanced a s → ⊥
+  balanced-lifts h b = omega (arith, h, o .value, o .normal, b .total)
+
+  -- by the tests, the last of whole inflation and the products
+  pub balanced-last : {y : Sums} {whole w : Large} {b : Bool} → Summed s y → y .files ≡ a .«files_kept» → eqb (y .bytes .0) (a .«bytes_kept» .0) ≡ true
+      → leb (a .«bytes_kept» .0) (a .settings .capacity .0) ≡ true → y .freqs ≤ a .requests → Is (a .lifts * lift + a .inflation .0) whole
+      → Is (valueOf whole + sum product s) w → b ≡ leb (valueOf w) (valueOf most) → Exact (Balanced a s) b
+  balanced-last {y} {whole} {w} h f k c g l x e =
+      answer-call e
+      (λ z. record {
+        files = sym (h .files) ∙ f;
+        bytes = sym (h .bytes) ∙ eqb-true (y .bytes .0) (a .«bytes_kept» .0) k;
+        fits = leb-true (a .«bytes_kept» .0) (a .settings .capacity .0) c;
+        freqs = omega (arith, h .freqs);
+        total = omega (arith, leb-true (valueOf w) (valueOf most) z, x .value, l .value, o .value);
+      })
+      (λ b. le-leb (valueOf w) (valueOf most) (omega (arith, b .total, x .value, l .value, o .value)))

@@ -25,6 +25,7 @@ weighable a t h w =
         inside = λ f b. ⊎-elim (λ e. inl e) (λ x. inr (omega (arith, x .0 .inside, l .size), omega (arith, x .0 .inside, l .freq))) (w f b);
       };
       valued = λ f b. ⊎-elim (λ e. inl e) (λ x. inr (omega (arith, x .0 .inside, l .cost), x .1 .fine .valued)) (w f b);
+      seldom = λ f b. ⊎-elim (λ e. inl e) (λ x. inr (x .1 .fine .seldom)) (w f b);
     }
 
 -- the sums do not look at the files of the places, at keys and at stamps

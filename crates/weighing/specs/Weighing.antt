@@ -5,7 +5,7 @@ use mathlib.Core.Bool.{true}
 use mathlib.Core.List.{List}
 use Prim.Native.Nat.{ℕ, _+_, _*_, _≤_, _<_}
 use lib.ListN.{length, getD}
-use Rattle.amounts.specs.Limits.{requestsMost, catalogueMost, noPlace}
+use Rattle.amounts.specs.Limits.{requestsMost, frequencyMost, lift, catalogueMost, noPlace}
 use Rattle.amounts.specs.Worth.{Valued, worthMost}
 use Rattle.amounts.specs.Settings.{inRange}
 use Rattle.amounts.specs.declared.settings.Settings.{Settings}
@@ -25,10 +25,9 @@ pub record Covered (places catalogue : ℕ) (t : Tables) : Type 0 where
   pub queue : List ℕ
   pub long : Long places catalogue (tables (t .place) (t .file) (t .size) (t .cost) (t .freq) (t .key) (t .stamp) queue)
 
--- document 01: a record in range, its stamp below requests, L ≤ key ≤ L + frequency × worth; and its frequency is at most requests
+-- document 01: a record in range, its stamp below requests, L ≤ key ≤ L + frequency × worth
 pub record Right (p : Policy) (l n : ℕ) (r : Kept) : Type 0 where
   pub fine : Fine p r
-  pub few : r .freq ≤ n
   pub stamp : r .stamp < n
   pub key-least : l ≤ r .key
   pub key-most : r .key ≤ l + product r
@@ -50,10 +49,11 @@ pub record Summable (n : ℕ) (place size freq : List ℕ) : Type 0 where
   pub few : n ≤ catalogueMost
   pub inside : (f : ℕ) → f < n → (getD place f 0 ≡ noPlace) ⊎ ((getD place f 0 < length size) × (getD place f 0 < length freq))
 
--- and the sum of the products besides: a size and a cost in force there
+-- and the sum of the products besides: a size and a cost in force there, and a frequency within its limit, so that each product is below one lift (document 02, ticket 5)
 pub record Weighable (n : ℕ) (place size cost freq : List ℕ) : Type 0 where
   pub summable : Summable n place size freq
   pub valued : (f : ℕ) → f < n → (getD place f 0 ≡ noPlace) ⊎ ((getD place f 0 < length cost) × Valued (getD size (getD place f 0) 0) (getD cost (getD place f 0) 0))
+  pub seldom : (f : ℕ) → f < n → (getD place f 0 ≡ noPlace) ⊎ (getD freq (getD place f 0) 0 ≤ frequencyMost)
 
 -- the sums that fit a word whatever the tables hold
 pub record Summed (s : Shelf) (r : Sums) : Type 0 where
@@ -67,7 +67,8 @@ pub record Balanced (a : Tally) (s : Shelf) : Type 0 where
   pub bytes : bytes s ≡ a .«bytes_kept» .0
   pub fits : a .«bytes_kept» .0 ≤ a .settings .capacity .0
   pub freqs : sum (λ r. r .freq) s ≤ a .requests
-  pub total : a .inflation .0 + sum product s ≤ a .requests * worthMost
+  -- document 02, ticket 5: judged on whole inflation, exact past 64 bits
+  pub total : a .lifts * lift + a .inflation .0 + sum product s ≤ a .requests * worthMost
 
 -- ---- The files and the sums together
 

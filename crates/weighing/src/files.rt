@@ -6,8 +6,7 @@ use amounts::Places;
 use amounts::Policy;
 use amounts::Settings;
 ghost use mathlib.Core.List.{[]};
-ghost use Prim.Native.Nat.{_≤_, _<_};
-ghost use Rattle.amounts.specs.Limits.{requestsMost};
+ghost use Prim.Native.Nat.{_<_};
 ghost use Rattle.method.specs.Method.{policyOf};
 ghost use Rattle.method.specs.Promise.{Once};
 ghost use Rattle.tables.specs.Tables.{tables};
@@ -35,7 +34,6 @@ fn is_right(
     key: Key,
     stamp: u64,
 ) -> bool
-    requires { ⌜ requests ≤ requestsMost ⌝ }
     ensures { λ r. ⌜ Exact (Right (policyOf (policy .0)) (inflation .0) requests (record { size = size; cost = cost; freq = freq; key = key .0; stamp = stamp })) r ⌝ }
 {
     if !Bytes::is_size(size as u64) {
@@ -47,7 +45,7 @@ fn is_right(
     if freq < 1 {
         return false;
     }
-    if requests < freq as u64 {
+    if Key::FREQUENCY_MOST < freq as u64 {
         return false;
     }
     if !is_once(policy, freq) {
@@ -77,7 +75,6 @@ fn is_lawful(
     key: &[u64],
     stamp: &[u64],
 ) -> bool
-    requires { ⌜ requests ≤ requestsMost ⌝ }
     requires { ⌜ f < settings .catalogue .0 ⌝ }
     requires { ⌜ Covered (settings .places .0) (settings .catalogue .0) (tables (now place) (now file) (now size) (now cost) (now freq) (now key) (now stamp) []) ⌝ }
     ensures { λ r. ⌜ Exact (Lawful settings (inflation .0) requests (tables (now (place .entry)) (now (file .entry)) (now (size .entry)) (now (cost .entry)) (now (freq .entry)) (now (key .entry)) (now (stamp .entry)) []) f) r ⌝ }
@@ -117,7 +114,6 @@ pub(crate) fn all_lawful(
     key: &[u64],
     stamp: &[u64],
 ) -> bool
-    requires { ⌜ requests ≤ requestsMost ⌝ }
     requires { ⌜ Covered (settings .places .0) (settings .catalogue .0) (tables (now place) (now file) (now size) (now cost) (now freq) (now key) (now stamp) []) ⌝ }
     ensures { λ r. ⌜ Exact (AllLawful settings (inflation .0) requests (tables (now (place .entry)) (now (file .entry)) (now (size .entry)) (now (cost .entry)) (now (freq .entry)) (now (key .entry)) (now (stamp .entry)) [])) r ⌝ }
 {

@@ -1,8 +1,8 @@
 // The shelf that the tables stand for: its files and its sums against the tally.
 use crate::files::all_lawful;
+use crate::sums::add_products;
 use crate::sums::sum_kept;
-use crate::sums::sum_products;
-use amounts::Key;
+use large::Large;
 use tables::Tally;
 ghost use mathlib.Core.List.{[]};
 ghost use Prim.Native.Nat.{_≤_};
@@ -30,11 +30,12 @@ fn sums_agree(a: Tally, place: &[u16], size: &[u32], cost: &[u16], freq: &[u32])
     if a.requests < sums.freqs {
         return false;
     }
-    let most = Key::most(a.requests);
-    if !a.inflation.at_most(most) {
+    let most = Large::worths(a.requests);
+    if most.high < a.lifts {
         return false;
     }
-    sum_products(a.settings.catalogue, place, size, cost, freq).at_most(most.minus(a.inflation))
+    let whole = Large::whole(a.lifts, a.inflation);
+    add_products(whole, a.settings.catalogue, place, size, cost, freq).at_most(most)
 }
 
 // Whether every file is as it should be, and so are the sums over them.

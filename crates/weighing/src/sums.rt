@@ -5,14 +5,16 @@ use amounts::Cost;
 use amounts::Key;
 use amounts::Places;
 use amounts::product;
+use large::Large;
 ghost use mathlib.Core.Path.{_≡_};
 ghost use mathlib.Core.List.{[]};
-ghost use Prim.Native.Nat.{_≤_};
-ghost use Rattle.amounts.specs.Limits.{requestsMost};
+ghost use Prim.Native.Nat.{_+_, _≤_};
+ghost use Rattle.amounts.specs.Limits.{requestsMost, frequencyMost};
 ghost use Rattle.amounts.specs.Worth.{Valued, productOf};
 ghost use Rattle.method.specs.Shelf.{sum};
 ghost use Rattle.method.specs.Shelf as shelf;
 ghost use Rattle.tables.specs.Tables.{tables, shelfOf};
+ghost use Rattle.large.specs.Large.{valueOf, Normal, Is};
 ghost use Rattle.weighing.specs.Weighing.{Summable, Weighable, Summed};
 
 // How many files are kept, their sizes and their frequencies together.
@@ -52,26 +54,28 @@ pub(crate) fn sum_kept(catalogue: Catalogue, place: &[u16], size: &[u32], freq: 
 // Frequency × worth of a record, from the words of its tables.
 pub(crate) fn kept_product(size: u32, cost: u16, freq: u64) -> Key
     requires { ⌜ Valued size cost ⌝ }
-    requires { ⌜ freq ≤ requestsMost ⌝ }
+    requires { ⌜ freq ≤ frequencyMost ⌝ }
     ensures { λ r. ⌜ r .0 ≡ productOf freq size cost ⌝ }
 {
     product(freq, Bytes::size(size as u64), Cost::asked(cost as u64))
 }
 
-// Frequency × worth of the files together.
-pub(crate) fn sum_products(
+// Frequency × worth of the files together, added to a number: each is below one lift.
+pub(crate) fn add_products(
+    start: Large,
     catalogue: Catalogue,
     place: &[u16],
     size: &[u32],
     cost: &[u16],
     freq: &[u32],
-) -> Key
+) -> Large
+    requires { ⌜ Normal start ⌝ }
+    requires { ⌜ start .high ≤ requestsMost ⌝ }
     requires { ⌜ Weighable (catalogue .0) (now place) (now size) (now cost) (now freq) ⌝ }
-    requires { ⌜ sum (λ r. r .freq) (shelfOf (catalogue .0) (tables (now place) [] (now size) (now cost) (now freq) [] [] [])) ≤ requestsMost ⌝ }
-    ensures { λ r. ⌜ r .0 ≡ sum shelf.product (shelfOf (catalogue .0) (tables (now (place .entry)) [] (now (size .entry)) (now (cost .entry)) (now (freq .entry)) [] [] [])) ⌝ }
+    ensures { λ r. ⌜ Is (valueOf start + sum shelf.product (shelfOf (catalogue .0) (tables (now (place .entry)) [] (now (size .entry)) (now (cost .entry)) (now (freq .entry)) [] [] []))) r ⌝ }
 {
     let n = catalogue.count();
-    let mut sum = Key(0);
+    let mut sum = start;
     let mut f = 0;
     while f < n {
         let p = place[f] as usize;

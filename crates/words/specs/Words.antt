@@ -16,7 +16,7 @@ answerWord c = wordOf (valueOf c) (c .number)
 
 -- docs/BOUNDARY.md: how many words a tally has
 abbrev pub tallyWords : ℕ
-tallyWords = 18
+tallyWords = 19
 
 -- docs/BOUNDARY.md: how many words settings have
 abbrev pub settingsWords : ℕ
@@ -31,7 +31,7 @@ abbrev pub settingsFrom : ℕ → ℕ → ℕ → ℕ → ℕ → Settings
 settingsFrom unit policy capacity places catalogue =
     record { unit = record { 0 = unit }; policy = record { 0 = policy }; capacity = record { 0 = capacity }; places = record { 0 = places }; catalogue = record { 0 = catalogue } }
 
--- docs/BOUNDARY.md: the tally of words in document 01's order, then what was dropped (document 02, ticket 2), which `words` gives back
+-- docs/BOUNDARY.md: the tally of words in document 01's order, then what was dropped and the lifts (document 02, tickets 2 and 5), which `words` gives back
 unfoldable pub tallyIn : List ℕ → Tally
 tallyIn w =
     record {
@@ -49,4 +49,5 @@ tallyIn w =
       «cost_asked» = record { 0 = getD w 15 0 };
       «hit_cost» = record { 0 = getD w 16 0 };
       dropped = getD w 17 0;
+      lifts = getD w 18 0;
     }

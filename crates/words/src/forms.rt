@@ -96,6 +96,7 @@ pub fn tally_from(tally: &[u64]) -> Tally
         cost_asked: Cost(tally[15]),
         hit_cost: Cost(tally[16]),
         dropped: tally[17],
+        lifts: tally[18],
     }
 }
 
@@ -122,4 +123,5 @@ pub fn put_words(a: Tally, out: &mut [u64])
     out[15] = a.cost_asked.0;
     out[16] = a.hit_cost.0;
     out[17] = a.dropped;
+    out[18] = a.lifts;
 }

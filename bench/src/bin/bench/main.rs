@@ -11,10 +11,10 @@ use std::process::ExitCode;
 use std::time::Instant;
 
 use bench::boundary::NOW;
-use bench::model::limits::{MOST_CATALOGUE, MOST_REQUESTS};
+use bench::model::limits::MOST_CATALOGUE;
 use bench::model::tally::Settings;
 use bench::store::{median, Store};
-use bench::workload::{self, Workload, PLACES};
+use bench::workload::{self, Workload, MOST_AT_ONCE, PLACES};
 
 use usual::Usual;
 
@@ -43,7 +43,7 @@ fn main() -> ExitCode {
     }
     let number = |at: usize, other| arguments.get(at).map_or(Ok(other), |text| text.parse());
     let (requests, runs) = (number(0, DEFAULT_REQUESTS), number(1, DEFAULT_RUNS));
-    let (Ok(requests @ 1..=MOST_REQUESTS), Ok(runs @ 1..)) = (requests, runs) else {
+    let (Ok(requests @ 1..=MOST_AT_ONCE), Ok(runs @ 1..)) = (requests, runs) else {
         eprintln!("bench [REQUESTS [RUNS]] | bench squid [RUNS]");
         return ExitCode::from(2);
     };

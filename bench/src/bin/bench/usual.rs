@@ -1,8 +1,9 @@
-//! The usual way: a hash map from file to record, and an ordered set for the lowest.
+//! The usual way: a hash map from file to record, and an ordered set for the lowest. Without lifts: of the traces that
+//! are timed in one call none has inflation past 64 bits.
 
 use std::collections::{BTreeSet, HashMap};
 
-use bench::model::limits::{in_force, worth};
+use bench::model::limits::{in_force, worth, MOST_FREQUENCY};
 use bench::model::tally::Settings;
 
 #[derive(Clone, Copy)]
@@ -83,7 +84,7 @@ impl Usual {
         let record = self.files.get_mut(&file).expect("the file is kept");
         self.order.remove(&(record.key, record.stamp, file));
         if self.settings.policy == 2 {
-            record.frequency += 1;
+            record.frequency = (record.frequency + 1).min(MOST_FREQUENCY);
         }
         record.key = self.inflation + record.frequency * worth(record.cost, record.size);
         record.stamp = self.served;

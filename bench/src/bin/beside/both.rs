@@ -2,10 +2,23 @@
 
 use bench::boundary::{BEFORE, NOW};
 use bench::lent::Lent;
-use bench::model::tally::Settings;
+use bench::make;
+use bench::model::tally::{Settings, TALLY_WORDS};
+use bench::random::Random;
 use bench::same::{same, same_list};
 
 use crate::reached::Reached;
+
+/// Whether the archive before takes a tally that is a word short for this one. Then it has other limits too, and leaves
+/// the last word as it is.
+pub fn has_shorter_tally() -> bool {
+    let mut random = Random::new(1);
+    let settings = make::settings(&mut random);
+    let mut lent = make::old_lent(&mut random, &settings);
+    lent.tally.truncate(TALLY_WORDS - 1);
+    let answer = BEFORE.fresh(&settings, &mut lent.tally, lent.tables.lend());
+    answer.number == 0
+}
 
 pub fn fresh(settings: &Settings, lent: &mut Lent, reached: &mut Reached) -> Result<(), String> {
     let mut due = lent.clone();

@@ -8,7 +8,7 @@ mod time;
 
 use std::process::ExitCode;
 
-use bench::model::limits::MOST_REQUESTS;
+use bench::workload::MOST_AT_ONCE;
 
 fn main() -> ExitCode {
     let words: Vec<String> = std::env::args().skip(1).collect();
@@ -35,7 +35,7 @@ fn verdict(words: &[String]) -> Option<Result<(), String>> {
         }
         "time" => {
             let [requests, runs] = numbers_or(numbers, [300_000, 7])?;
-            let has_any = (1..=MOST_REQUESTS).contains(&requests) && runs > 0;
+            let has_any = (1..=MOST_AT_ONCE).contains(&requests) && runs > 0;
             has_any.then(|| time::time_all(requests, runs))
         }
         _ => None,

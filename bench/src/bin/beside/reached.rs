@@ -5,6 +5,7 @@ use bench::model::tally::Tally;
 
 /// The numbers of the red card that a fresh start and carrying on can give, 0 for done among them.
 const NUMBERS: usize = 9;
+const RUN_LIMIT: usize = 5;
 
 const KINDS: [&str; 6] = ["hits", "admitted", "big", "low", "evicted", "dropped"];
 const HIT: u32 = 1;
@@ -14,6 +15,8 @@ const PLACES: [u64; 3] = [64, 512, 4_096];
 
 #[derive(Default)]
 pub struct Reached {
+    /// Calls with a tally too short for one archive alone, and those near its limit, are left out.
+    pub shorter_tally: bool,
     /// Calls since the run began.
     pub calls_of_run: u64,
     calls: [u64; NUMBERS],
@@ -28,6 +31,13 @@ pub struct Reached {
 }
 
 impl Reached {
+    pub fn none(shorter_tally: bool) -> Self {
+        Reached {
+            shorter_tally,
+            ..Reached::default()
+        }
+    }
+
     pub fn call(&mut self, number: u64, lent: &Lent, events: &[u32]) {
         self.calls_of_run += 1;
         self.calls[number as usize] += 1;
@@ -79,8 +89,8 @@ impl Reached {
     /// What no run reached, one line each.
     pub fn missed(&self) -> Vec<String> {
         let numbers = self.calls.iter().enumerate();
-        let calls =
-            numbers.map(|(number, &count)| (format!("a call that answers {number}"), count));
+        let due = numbers.filter(|&(number, _)| number != RUN_LIMIT || !self.shorter_tally);
+        let calls = due.map(|(number, &count)| (format!("a call that answers {number}"), count));
         let kinds = KINDS.iter().zip(self.kinds);
         let events = kinds.map(|(kind, count)| (format!("an event of the kind {kind}"), count));
         let hits = ["stays", "moves"].iter().zip(self.lone_hits);

@@ -4,7 +4,7 @@ use bench::damage::damage;
 use bench::lent::Lent;
 use bench::make::{self, Asking};
 use bench::model::limits::{MOST_CAPACITY, MOST_CATALOGUE, MOST_PLACES, MOST_UNIT};
-use bench::model::tally::Settings;
+use bench::model::tally::{Settings, TALLY_WORDS};
 use bench::model::trace::Request;
 use bench::random::Random;
 
@@ -14,7 +14,10 @@ use crate::reached::Reached;
 /// Compares so many runs, and tells the first difference or what they did not reach.
 pub fn compare_all(runs: u64, seed: u64) -> Result<(), String> {
     println!("seed {seed}; the archive before gives what is due");
-    let mut reached = Reached::default();
+    let mut reached = Reached::none(both::has_shorter_tally());
+    if reached.shorter_tally {
+        println!("it has a shorter tally: its limits are left out, and the last word is 0 from the start");
+    }
     for run in 0..runs {
         let mut random = Random::of_case(seed, 0, run);
         compare(&mut random, &mut reached).map_err(|difference| {
@@ -34,6 +37,9 @@ pub fn compare_all(runs: u64, seed: u64) -> Result<(), String> {
 fn compare(random: &mut Random, reached: &mut Reached) -> Result<(), String> {
     let settings = settings(random);
     let mut lent = make::old_lent(random, &settings);
+    if reached.shorter_tally {
+        lent.tally[TALLY_WORDS - 1] = 0;
+    }
     both::fresh(&settings, &mut lent, reached)?;
     let mut asking = Asking::afresh(&settings);
     let choice = random.pick(&[any_file as Choice, low_file]);
@@ -121,8 +127,9 @@ fn compare_spoiled(
     match random.below(8) {
         0 => unit = MOST_UNIT + 1,
         1 => unit ^= 1,
-        2 => make::shorten(random, &mut lent, &settings),
+        2 => shorten(random, &mut lent, reached),
         3 | 4 => damage(random, &mut part),
+        5 if reached.shorter_tally => {}
         5 => make::near_the_limit(random, &mut lent, left),
         6 => room = room.saturating_sub(1),
         _ => lent.tables.queue[0] = random.below(settings.places) as u16,
@@ -132,4 +139,13 @@ fn compare_spoiled(
     }
     let mut events = make::exact_list(random, room, |word| word as u32);
     both::carry_on(unit, &mut lent, &part, &mut events, reached)
+}
+
+/// One list too short for both archives, if it is too short for one.
+fn shorten(random: &mut Random, lent: &mut Lent, reached: &Reached) {
+    let settings = lent.settings();
+    make::shorten(random, lent, &settings);
+    if reached.shorter_tally && lent.tally.len() == TALLY_WORDS - 1 {
+        lent.tally.pop();
+    }
 }

@@ -6,13 +6,14 @@ use std::sync::atomic::{AtomicU64, Ordering};
 
 use bench::boundary::NOW;
 pub use bench::lent::Lent;
+use bench::model::limits::LIFT;
 use bench::model::ratios::ratios_into;
 use bench::model::red_card::{Answer, Refusal};
 use bench::model::sheet::sheet_into;
 use bench::model::soundness::sound;
 use bench::model::squid;
 use bench::model::tables::{self, Carried, Tables};
-use bench::model::tally::{Settings, TALLY_WORDS};
+use bench::model::tally::{Settings, Tally, TALLY_WORDS};
 use bench::model::trace::{self, Lists, Request};
 pub use bench::same::{same, same_bits, same_list};
 
@@ -21,11 +22,31 @@ pub type Agreement = Result<Answer, String>;
 /// Recuts that the library told of since they were last taken: admitted, big and low.
 static RECUTS: [AtomicU64; 3] = [const { AtomicU64::new(0) }; 3];
 
+/// Lifts since they were last taken: before the first request of a call by the kind of its first event, and later ones.
+static LIFTS: [AtomicU64; 7] = [const { AtomicU64::new(0) }; 7];
+
 /// Counted beside the answers, since every call that carries on may tell of some.
 pub fn take_recuts() -> [u64; 3] {
-    RECUTS
+    take(&RECUTS)
+}
+
+pub fn take_lifts() -> [u64; 7] {
+    take(&LIFTS)
+}
+
+fn take<const N: usize>(counts: &[AtomicU64; N]) -> [u64; N] {
+    counts
         .each_ref()
         .map(|count| count.swap(0, Ordering::Relaxed))
+}
+
+fn count_lifts(before: &Tally, after: &Tally, events: &[u32]) {
+    let first = events.first().filter(|_| before.inflation() >= LIFT);
+    if let Some(event) = first {
+        LIFTS[(event / 32_768 - 1) as usize].fetch_add(1, Ordering::Relaxed);
+    }
+    let later = after.lifts - before.lifts - u64::from(first.is_some());
+    LIFTS[6].fetch_add(later, Ordering::Relaxed);
 }
 
 /// What a recut comes to is the next kind of event after `stale` that is no eviction.
@@ -78,6 +99,7 @@ pub fn carry_on(unit: u64, lent: &mut Lent, part: &[u8], events: &mut [u32]) -> 
             expected[..carried.events.len()].copy_from_slice(&carried.events);
             carried_alike(lent, &before, &carried)?;
             count_recuts(carried.events.iter().map(|event| event / 32_768));
+            count_lifts(&before.read_tally(), &carried.run.tally, &carried.events);
         }
     }
     same_list("events", events, &expected)?;
@@ -101,7 +123,7 @@ fn carried_alike(lent: &Lent, before: &Lent, carried: &Carried) -> Result<(), St
     if !sound(&carried.run.tally, &lent.tables) {
         return Err("the tables are left unsound".into());
     }
-    same_list("shelf", &lent.tables.shelf(catalogue), &carried.run.kept)
+    same_list("shelf", &lent.tables.shelf(catalogue), &carried.run.shelf())
 }
 
 fn same_beyond(

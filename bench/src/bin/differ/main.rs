@@ -2,10 +2,12 @@
 //! `differ [CASES [SEED [PROGRAM ..]]]`. Each kind of case must reach the answers that it is made for.
 
 mod agree;
+mod bounds;
 mod craft;
 mod damage;
 mod fields;
 mod fresh;
+mod lifting;
 mod logs;
 mod make;
 mod order;
@@ -14,6 +16,7 @@ mod printed;
 mod ratios;
 mod recuts;
 mod runs;
+mod season;
 mod sheets;
 mod soundness;
 mod squid;
@@ -32,19 +35,25 @@ type Verdict = Result<Vec<Answer>, String>;
 ///
 /// The numbers are those of the lists of documents 01 and 02 and of the boundary's orders of refusals that the kind is
 /// made for: 1 and 2 for a fresh start, 1, 2, 8, 7, 3, 4, 5 and 6 for carrying on, 1, 3, 4 and 6 for the reader, 1, 2,
-/// 4 and 6 for the writer, 9, 1, 2, 3 and 4 on a sheet, 1, 10 and 6 for a Squid log, 2, 11, 7 and 6 for the ratios. A
-/// kind that misses one of them tests less than it says, and the run fails; so does one that sees fewer recuts than it is
-/// made for.
+/// 4 and 6 for the writer, 9, 1, 2, 3 and 4 on a sheet, 1, 10 and 6 for a Squid log, 2, 11, 7, 12 and 6 for the ratios. A
+/// kind that misses one of them tests less than it says, and the run fails; so does one that sees fewer recuts or lifts
+/// than it is made for.
 struct Kind {
     name: &'static str,
     case: fn(&mut Random) -> Verdict,
     reaches: &'static [u64],
     /// Of each hundred cases at least so many `stale` events whose request is then admitted, big and low.
     recuts: [u64; 3],
+    /// And so many lifts: before a call's first request by the kind of its first event, in their order, and later ones.
+    lifts: [u64; 7],
     fewer: u64,
 }
 
 impl Kind {
+    const fn lifts(self, lifts: [u64; 7]) -> Kind {
+        Kind { lifts, ..self }
+    }
+
     const fn recuts(self, recuts: [u64; 3]) -> Kind {
         Kind { recuts, ..self }
     }
@@ -64,11 +73,12 @@ const fn kind(
         case,
         reaches,
         recuts: [0; 3],
+        lifts: [0; 7],
         fewer: 1,
     }
 }
 
-const KINDS: [Kind; 39] = [
+const KINDS: [Kind; 45] = [
     kind("settings in and out of range", fresh::settings, &[0, 1]),
     kind("fresh start, tables too short", fresh::too_short, &[0, 2]),
     kind("fresh start over old contents, twins", fresh::twins, &[0]).recuts([100, 20, 0]),
@@ -88,6 +98,16 @@ const KINDS: [Kind; 39] = [
     kind("recuts back and forth, in parts", recuts::in_parts, &[0]).recuts([700, 150, 20]),
     kind("a kept file at another cost", recuts::same_size, &[0]),
     kind("evicted and dropped set anew", soundness::drops, &[0, 7]).recuts([40, 8, 0]),
+    kind("each bound of a season", bounds::each, &[0, 5, 7]).lifts([8, 8, 2, 0, 1, 1, 0]),
+    kind("a lift is due", season::due, &[0, 6]).lifts([12, 2, 2, 1, 8, 20, 0]),
+    kind("twins, one with the lift made", season::twins, &[0]).lifts([20, 15, 4, 0, 2, 3, 0]),
+    kind("lifts later in a run, in parts", season::later, &[0]).lifts([0, 0, 0, 0, 0, 0, 30]),
+    kind(
+        "hits at the end of the frequencies",
+        season::frequency,
+        &[0],
+    )
+    .lifts([20, 0, 0, 0, 0, 0, 0]),
     kind("one entry changed", soundness::one_change, &[0, 1, 2, 7, 8]),
     kind("damaged parts", damage::parts, &[0, 3, 4]),
     kind("damaged files", damage::files, &[0, 1, 3, 4]),
@@ -107,6 +127,9 @@ const KINDS: [Kind; 39] = [
         .fewer(20),
     kind("bench pieces and samples", pieces::all, &[0, 5])
         .recuts([1_000_000, 500_000, 100])
+        .fewer(u64::MAX),
+    kind("lifts from a fresh start", lifting::both, &[0])
+        .lifts([0, 0, 0, 0, 0, 0, 100])
         .fewer(u64::MAX),
     kind("good Squid logs", squid::good, &[0]),
     kind("Squid logs, room for the trace", squid::room, &[0, 6]),
@@ -128,25 +151,26 @@ const KINDS: [Kind; 39] = [
     ),
     kind("real Squid logs, damaged", squid::damaged, &[0, 10]),
     kind("long Squid logs", squid::long, &[0, 10]).fewer(u64::MAX),
-    kind("ratios of runs", ratios::of_runs, &[0, 11]).recuts([250, 35, 1]),
+    kind("ratios of runs", ratios::of_runs, &[0, 11, 12]).recuts([250, 35, 1]),
     kind("ratios of any good tally", ratios::good, &[0]),
-    kind("ratios, damaged tallies", ratios::damaged, &[0, 7, 11]),
+    kind("ratios, damaged tallies", ratios::damaged, &[0, 7, 11, 12]),
     kind(
         "ratios, order of refusals",
         order::ratios,
-        &[0, 2, 6, 7, 11],
+        &[0, 2, 6, 7, 11, 12],
     ),
 ];
 
 /// The numbers on the red card, 0 for done among them.
-const NUMBERS: usize = 12;
+const NUMBERS: usize = 13;
 
-/// What the cases of a kind came to: calls by their number on the red card, and recuts by their outcome.
+/// What the cases of a kind came to: calls by their number on the red card, recuts by their outcome, and lifts.
 #[derive(Default)]
 struct Seen {
     cases: u64,
     calls: [u64; NUMBERS],
     recuts: [u64; 3],
+    lifts: [u64; 7],
 }
 
 /// Only where a program is named.
@@ -196,22 +220,52 @@ fn main() -> ExitCode {
 
 const RECUT_OUTCOMES: [&str; 3] = ["admitted", "big", "low"];
 
-/// The numbers that a kind must reach and has not, and the recuts that it has too few of.
+/// By the kind of the first event of the request that they come before.
+const LIFT_REQUESTS: [&str; 7] = [
+    "before a hit",
+    "before an admission",
+    "before a big file",
+    "before a low file",
+    "before an eviction",
+    "before a stale copy",
+    "later in a call",
+];
+
+/// The numbers that a kind must reach and has not, and the recuts and lifts that it has too few of.
 fn missed_by(kind: &Kind, seen: &Seen) -> Vec<String> {
     let unreached = kind
         .reaches
         .iter()
         .filter(|&&at| seen.calls[at as usize] == 0);
     let numbers = unreached.map(|number| format!("{}: no call answered {number}", kind.name));
-    let few = (0..3).filter(|&at| 100 * seen.recuts[at] < kind.recuts[at] * seen.cases);
-    let recuts = few.map(|at| {
-        let (outcome, count, least) = (RECUT_OUTCOMES[at], seen.recuts[at], kind.recuts[at]);
-        format!(
-            "{}: {count} recuts {outcome}, {least} a hundred cases are due",
-            kind.name
-        )
-    });
-    numbers.chain(recuts).collect()
+    let recuts = too_few(
+        "recuts",
+        &RECUT_OUTCOMES,
+        &seen.recuts,
+        &kind.recuts,
+        seen.cases,
+    );
+    let lifts = too_few(
+        "lifts",
+        &LIFT_REQUESTS,
+        &seen.lifts,
+        &kind.lifts,
+        seen.cases,
+    );
+    let few = recuts.into_iter().chain(lifts);
+    numbers
+        .chain(few.map(|line| format!("{}: {line}", kind.name)))
+        .collect()
+}
+
+/// A line for each count that is below what a hundred cases are due.
+fn too_few(what: &str, names: &[&str], counts: &[u64], least: &[u64], cases: u64) -> Vec<String> {
+    let few = (0..counts.len()).filter(|&at| 100 * counts[at] < least[at] * cases);
+    let line = |at: usize| {
+        let (name, count, least) = (names[at], counts[at], least[at]);
+        format!("{count} {what} {name}, {least} a hundred cases are due")
+    };
+    few.map(line).collect()
 }
 
 /// Runs the cases of a kind and gives what they came to.
@@ -233,12 +287,13 @@ fn run_kind(kind: &Kind, number: u64, cases: u64, seed: u64) -> Result<Seen, Str
         cases,
         calls,
         recuts: agree::take_recuts(),
+        lifts: agree::take_lifts(),
     };
     println!("{cases} cases, {}", listed(&seen));
     Ok(seen)
 }
 
-/// The calls by their number on the red card and the recuts by their outcome, those that occurred.
+/// The calls by their number on the red card, the recuts by their outcome and the lifts, those that occurred.
 fn listed(seen: &Seen) -> String {
     let numbers = seen
         .calls
@@ -249,11 +304,15 @@ fn listed(seen: &Seen) -> String {
         0 => format!("done {count}"),
         _ => format!("refused {number}: {count}"),
     });
-    let outcomes = RECUT_OUTCOMES
-        .iter()
-        .zip(seen.recuts)
-        .filter(|(_, count)| *count > 0);
-    let recuts = outcomes.map(|(outcome, count)| format!("recuts {outcome} {count}"));
-    let parts: Vec<String> = calls.chain(recuts).collect();
+    let recuts = occurred("recuts", &RECUT_OUTCOMES, &seen.recuts);
+    let lifts = occurred("lifts", &LIFT_REQUESTS, &seen.lifts);
+    let parts: Vec<String> = calls.chain(recuts).chain(lifts).collect();
     parts.join(", ")
+}
+
+fn occurred(what: &str, names: &[&str], counts: &[u64]) -> Vec<String> {
+    let named = names.iter().zip(counts).filter(|(_, &count)| count > 0);
+    named
+        .map(|(name, count)| format!("{what} {name} {count}"))
+        .collect()
 }

@@ -11,7 +11,7 @@ use crate::agree::{self, Lent};
 use crate::fields::{all_requests, bytes_of, request_fault, setting_fault, setting_fields, Field};
 use crate::logs::{bad_line, good_lines, log_of, requests_of};
 use crate::make::Asking;
-use crate::ratios::{at_a_bound, good_tally, old_ratio};
+use crate::ratios::{at_a_bound, good_tally, old_ratio, past_doubles};
 use crate::{make, Verdict};
 
 /// A fault of its own chance: the refusal, where the coin falls so.
@@ -135,8 +135,9 @@ pub fn carry_on(random: &mut Random) -> Verdict {
 fn put_faults(random: &mut Random, faults: &Faults, lent: &mut Lent) -> u64 {
     let settings = lent.settings();
     if faults.unsound {
-        // Bytes kept, or dropped.
-        lent.tally[random.pick(&[6, 17])] += 1;
+        // Bytes kept, dropped, or more lifts than any run has.
+        let (word, by) = random.pick(&[(6, 1), (17, 1), (18, 5_000)]);
+        lent.tally[word] += by;
     }
     if faults.short {
         cut_one(random, &mut lent.tables);
@@ -294,10 +295,15 @@ pub fn squid(random: &mut Random) -> Verdict {
 
 pub fn ratios(random: &mut Random) -> Verdict {
     let unsound = chance(random, Refusal::Unsound);
-    let mut tally = match unsound {
-        Some(_) => at_a_bound(random, 1),
-        None => good_tally(random),
+    let inexact = chance(random, Refusal::Inexact);
+    let mut tally = match (unsound, inexact) {
+        (None, None) => good_tally(random),
+        (Some(_), None) => at_a_bound(random, 1),
+        (_, Some(_)) => past_doubles(random),
     };
+    if unsound.is_some() && inexact.is_some() {
+        tally.passed += 1;
+    }
     // With the other counts left as they are, this is unsound as well.
     let none = chance(random, Refusal::NoRequests);
     if none.is_some() {
@@ -317,6 +323,6 @@ pub fn ratios(random: &mut Random) -> Verdict {
     };
     let mut list = make::exact_list(random, length, old_ratio);
     let given = agree::ratios(&words[..lent], &mut list)?;
-    agree::due(given, first(&[short, none, unsound, room], 0))?;
+    agree::due(given, first(&[short, none, unsound, inexact, room], 0))?;
     Ok(vec![given])
 }

@@ -1,6 +1,5 @@
 //! The bench pieces that a program runs, and the samples, over the boundary.
 
-use bench::model::limits::MOST_REQUESTS;
 use bench::model::red_card::{Answer, Refusal};
 use bench::model::sheet::sheet;
 use bench::model::tally::Settings;
@@ -63,7 +62,7 @@ fn piece(
     Ok((lent, answer))
 }
 
-fn keys(lent: &Lent) -> Vec<(u64, u64)> {
+fn keys(lent: &Lent) -> Vec<(u64, u128)> {
     let shelf = lent.tables.shelf(lent.settings().catalogue);
     shelf.iter().map(|kept| (kept.file, kept.key)).collect()
 }
@@ -121,7 +120,7 @@ pub fn all(random: &mut Random) -> Verdict {
         answers.push(agree::sheet(sample, &mut out)?);
     }
     answers.extend(run_limit(random)?);
-    answers.extend(more_than_a_run()?);
+    answers.extend(long_lists()?);
     Ok(answers)
 }
 
@@ -151,26 +150,33 @@ fn recuts(random: &mut Random) -> Verdict {
     Ok(vec![first, second])
 }
 
-/// As many requests as a run may have pass, and one more is refused.
+/// More than a million requests pass in one call; then as many more as a run may have, and one more is refused.
 fn run_limit(random: &mut Random) -> Verdict {
     let mut lent = make::fresh_lent(random, &SETTINGS)?;
     let mut asking = Asking::afresh(&SETTINGS);
-    let requests: Vec<Request> = (0..MOST_REQUESTS).map(|_| asking.request(random)).collect();
-    let all = carried(random, &mut lent, &requests)?;
+    let requests: Vec<Request> = (0..MILLION).map(|_| asking.request(random)).collect();
+    let million = carried(random, &mut lent, &requests)?;
+    make::near_the_limit(random, &mut lent, 2);
+    let last = carried(random, &mut lent, &requests[..2])?;
+    agree::same("requests", &lent.read_tally().requests, &4_294_967_295)?;
+    let none = carried(random, &mut lent, &[])?;
     let one_more = carried(random, &mut lent, &requests[..1])?;
     agree::due(one_more, Answer::refused(Refusal::RunLimit))?;
-    Ok(vec![all, one_more])
+    Ok(vec![million, last, none, one_more])
 }
 
-/// Reader and writer take more requests than a run may have.
-fn more_than_a_run() -> Verdict {
+/// One more than a run could have before ticket 5.
+pub const MILLION: usize = 1_048_577;
+
+/// Reader and writer take as many as that too.
+fn long_lists() -> Verdict {
     let requests = vec![
         Request {
             file: 1,
             size: 5,
             cost: 1
         };
-        MOST_REQUESTS as usize + 1
+        MILLION
     ];
     let lists = make::lists_of(&requests);
     let mut part = vec![0; 3 * requests.len()];

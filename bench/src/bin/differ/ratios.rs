@@ -1,7 +1,7 @@
 //! Ratios: of tallies that runs leave, of any good ones, and of damaged ones.
 //! What ticket 3 asks of each is told here a second time, apart from the model.
 
-use bench::model::limits::{MOST_REQUESTS, MOST_SIZE};
+use bench::model::limits::{MOST_EXACT, MOST_REQUESTS, MOST_SIZE};
 use bench::model::red_card::{Answer, Refusal};
 use bench::model::tally::{Tally, TALLY_WORDS};
 use bench::model::trace::Request;
@@ -109,9 +109,9 @@ fn carry_on(
 /// A count of this range: at an end or beside it, small, beside a power of two, or any.
 fn count(random: &mut Random, least: u64, most: u64) -> u64 {
     let small = random.below(20);
-    let power: u64 = 1 << random.below(45);
+    let power: u64 = 1 << random.below(54);
     let beside = power + random.below(3) - 1;
-    let shorter = random.word() >> random.between(20, 63);
+    let shorter = random.word() >> random.between(10, 63);
     let any = random.between(least, most);
     let counts = [
         least,
@@ -126,11 +126,17 @@ fn count(random: &mut Random, least: u64, most: u64) -> u64 {
     random.pick(&counts).clamp(least, most)
 }
 
+/// So many bytes, or as many as a tally with ratios may have.
+fn exact(bytes: u64) -> u64 {
+    bytes.min(MOST_EXACT)
+}
+
 /// A tally of so many requests and hits, its other counts in their ranges and the words that are not judged anything.
 fn tally_of(random: &mut Random, requests: u64, hits: u64) -> Tally {
     let admitted = count(random, 0, requests - hits);
-    let hit_bytes = count(random, hits, hits * MOST_SIZE);
-    let bytes_asked = count(random, requests.max(hit_bytes), requests * MOST_SIZE);
+    let hit_bytes = count(random, hits, exact(hits * MOST_SIZE));
+    let least = requests.max(hit_bytes);
+    let bytes_asked = count(random, least, exact(requests * MOST_SIZE));
     let any = std::array::from_fn(|_| random.word());
     Tally {
         requests,
@@ -229,12 +235,14 @@ fn is_nearest(ratio: f64, part: u64, whole: u64) -> bool {
 /// Counts at a bound and one beyond, sums that agree only modulo 2 to the 64th, and single words changed.
 pub fn damaged(random: &mut Random) -> Verdict {
     let unsound = Some(Answer::refused(Refusal::Unsound));
+    let inexact = Some(Answer::refused(Refusal::Inexact));
     let mut answers = Vec::new();
     for _ in 0..TALLIES {
-        let (tally, due) = match random.below(6) {
+        let (tally, due) = match random.below(8) {
             0 => (at_a_bound(random, 0), Some(Answer::done(0))),
             1 => (at_a_bound(random, 1), unsound),
             2 => (past_64_bits(random), unsound),
+            3 => (past_doubles(random), inexact),
             _ => (one_word_changed(random), None),
         };
         let words = lent_words(random, &tally);
@@ -249,8 +257,14 @@ pub fn damaged(random: &mut Random) -> Verdict {
 
 /// A tally that meets one of the clauses with nothing to spare, or misses that one alone by one.
 pub fn at_a_bound(random: &mut Random, by: u64) -> Tally {
-    let requests = count(random, 2, MOST_REQUESTS);
-    let hits = count(random, 1, requests - 1);
+    // Where the clause is met there are ratios, so of all the requests none may be too many bytes.
+    let most_requests = match by {
+        0 => MOST_EXACT / MOST_SIZE,
+        _ => MOST_REQUESTS,
+    };
+    let requests = count(random, 2, most_requests);
+    // Hits that can have more bytes than there are requests.
+    let hits = count(random, requests / MOST_SIZE + 1, requests - 1);
     let tally = tally_of(random, requests, hits);
     let most = requests * MOST_SIZE;
     let bytes = |hit_bytes, bytes_asked| Tally {
@@ -276,6 +290,19 @@ pub fn at_a_bound(random: &mut Random, by: u64) -> Tally {
         }
         6 => bytes(count(random, hits, requests - 1), requests - by),
         _ => bytes(tally.hit_bytes, most + by),
+    }
+}
+
+/// A tally that is sound as far as it is judged, with more bytes asked than a double holds exactly.
+pub fn past_doubles(random: &mut Random) -> Tally {
+    let requests = count(random, MOST_EXACT / MOST_SIZE + 1, MOST_REQUESTS);
+    let hits = count(random, 0, requests);
+    let bytes_asked = count(random, MOST_EXACT + 1, requests * MOST_SIZE);
+    let hit_bytes = count(random, hits, bytes_asked.min(hits * MOST_SIZE));
+    Tally {
+        hit_bytes,
+        bytes_asked,
+        ..tally_of(random, requests, hits)
     }
 }
 

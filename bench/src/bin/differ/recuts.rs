@@ -3,7 +3,7 @@
 
 use bench::model::limits::{MOST_COST, MOST_REQUESTS, MOST_SIZE};
 use bench::model::red_card::Answer;
-use bench::model::run::Kept;
+use bench::model::run::{Kept, Run};
 use bench::model::tables::NO_PLACE;
 use bench::model::tally::Settings;
 use bench::model::trace::Request;
@@ -24,7 +24,7 @@ fn event(kind: u32, file: u64) -> u32 {
     kind * 32_768 + file as u32
 }
 
-fn shelf(lent: &Lent) -> Vec<Kept> {
+pub fn shelf(lent: &Lent) -> Vec<Kept> {
     lent.tables.shelf(lent.settings().catalogue)
 }
 
@@ -46,7 +46,7 @@ fn cost(random: &mut Random) -> u64 {
 }
 
 /// The answer to one request over these tables, and its events.
-fn asked(
+pub fn asked(
     random: &mut Random,
     lent: &mut Lent,
     request: Request,
@@ -110,7 +110,8 @@ fn dropped_first(
     ];
     agree::same("dropped, evicted and hits", &counts, &due)?;
     if evictions.is_empty() {
-        agree::same("L without evictions", &new.inflation, &old.inflation)?;
+        let [new, old] = [new, old].map(|tally| tally.whole_inflation);
+        agree::same("inflation without evictions", &new, &old)?;
     }
     if *own == event(ADMIT, request.file) {
         kept_anew(lent, request, old.requests)
@@ -131,13 +132,18 @@ fn kept_anew(lent: &Lent, request: Request, stamp: u64) -> Result<(), String> {
     agree::same("size, cost, frequency and stamp", &given, &Some(due))
 }
 
-/// The file has no place, and of every other file the record is as it was.
+/// The file has no place, and of every other file the record is as it was, its key whole.
 fn not_brought_back(before: &Lent, lent: &Lent, file: u64) -> Result<(), String> {
     let place = lent.tables.place[file as usize];
     agree::same("place of the dropped file", &place, &NO_PLACE)?;
-    let mut others = shelf(before);
+    let whole_shelf = |lent: &Lent| Run::over(lent.read_tally(), shelf(lent)).kept;
+    let mut others = whole_shelf(before);
     others.retain(|kept| kept.file != file);
-    agree::same_list("shelf without the dropped file", &shelf(lent), &others)
+    agree::same_list(
+        "shelf without the dropped file",
+        &whole_shelf(lent),
+        &others,
+    )
 }
 
 /// The same size is a hit whatever it costs, and the kept cost counts.
@@ -152,10 +158,11 @@ pub fn same_size(random: &mut Random) -> Verdict {
     let (first, events) = asked(random, &mut lent, request)?;
     agree::same_list("events", &events, &[event(HIT, kept.file)])?;
     let new = lent.read_tally();
-    let totals = [new.hit_cost, new.hit_bytes, new.dropped, new.inflation];
+    let totals = [new.hit_cost, new.hit_bytes, new.dropped];
     let [hit_cost, hit_bytes] = [old.hit_cost + kept.cost, old.hit_bytes + kept.size];
-    let due = [hit_cost, hit_bytes, old.dropped, old.inflation];
-    agree::same("hit cost, hit bytes, dropped and L", &totals, &due)?;
+    let due = [hit_cost, hit_bytes, old.dropped];
+    agree::same("hit cost, hit bytes and dropped", &totals, &due)?;
+    agree::same("inflation", &new.whole_inflation, &old.whole_inflation)?;
     let requests = make::further(random, &lent, 3);
     Ok(vec![first, carried(random, &mut lent, &requests)?])
 }

@@ -28,7 +28,16 @@ pub fn whole_and_in_parts(
     settings: &Settings,
     requests: &[Request],
 ) -> Verdict {
-    let mut lent = make::fresh_lent(random, settings)?;
+    let lent = make::fresh_lent(random, settings)?;
+    lent_whole_and_in_parts(random, lent, requests)
+}
+
+/// The same from any sound tables.
+pub fn lent_whole_and_in_parts(
+    random: &mut Random,
+    mut lent: Lent,
+    requests: &[Request],
+) -> Verdict {
     let mut whole = lent.clone();
     let mut answers = vec![carried(random, &mut whole, requests)?];
     let mut rest = requests;
@@ -38,7 +47,7 @@ pub fn whole_and_in_parts(
         rest = after;
     }
     agree::same_list("tally in parts", &lent.tally, &whole.tally)?;
-    let shelves = [&lent, &whole].map(|lent| lent.tables.shelf(settings.catalogue));
+    let shelves = [&lent, &whole].map(|lent| lent.tables.shelf(lent.settings().catalogue));
     agree::same_list("shelf in parts", &shelves[0], &shelves[1])?;
     Ok(answers)
 }

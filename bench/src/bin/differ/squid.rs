@@ -1,6 +1,6 @@
 //! Squid logs as a trace file and as a further part: good ones, bad ones, real ones that are damaged, long ones.
 
-use bench::model::limits::{MOST_CATALOGUE, MOST_REQUESTS};
+use bench::model::limits::MOST_CATALOGUE;
 use bench::model::red_card::{Answer, Refusal};
 use bench::model::squid;
 use bench::model::tally::Settings;
@@ -8,6 +8,7 @@ use bench::model::trace::Request;
 use bench::random::Random;
 
 use crate::logs::{bad_line, good_lines, log_of, requests_of, Line, FAULTS};
+use crate::pieces::MILLION;
 use crate::{agree, make, Verdict};
 
 const SAMPLE: &[u8] = include_bytes!("../../../../samples/squid-5.7.log");
@@ -246,7 +247,7 @@ pub fn long(random: &mut Random) -> Verdict {
     let request = Request { file, size, cost };
     answers.extend(taken(random, &settings, line.as_bytes(), &[request])?);
 
-    let count = MOST_REQUESTS as usize + 1;
+    let count = MILLION;
     let log = b"1 5 - /200 9 GET /3 - - -\n".repeat(count);
     answers.extend(taken(random, &settings, &log, &vec![request; count])?);
     Ok(answers)

@@ -4,7 +4,7 @@ use Prim.Native.Nat.{ℕ, _*_, _≤_}
 use native.Mathlib.Omega.{arith}
 use native.Mathlib.Nat.{mul-le-mul}
 use borrow.Author.Needs.{needs}
-use Rattle.amounts.specs.Limits.{requestsMost}
+use Rattle.amounts.specs.Limits.{frequencyMost}
 use Rattle.amounts.specs.Worth.{worthMost, productOf}
 use Rattle.amounts.proofs.Values.{worth-most}
 use Rattle.amounts.proofs.key.product.Statement.{statement}
@@ -16,7 +16,7 @@ worth-requires c κs = search needs
 mul-t5 : tie.Need-mul-t5
 mul-t5 c =
     let w : c .before .worth .result .0 ≤ worthMost = omega (arith, c .before .worth .ensures, worth-most _ _ (c .before .before .pre .0)) in
-    let m : c .before .before .args .frequency * c .before .worth .result .0 ≤ requestsMost * worthMost = mul-le-mul (c .before .before .pre .1) w in
+    let m : c .before .before .args .frequency * c .before .worth .result .0 ≤ frequencyMost * worthMost = mul-le-mul (c .before .before .pre .1) w in
     omega arith
 
 returns : tie.Need-returns

@@ -5,7 +5,7 @@ use native.Mathlib.Omega.{arith}
 use borrow.Author.Needs.{needs, scaled-fits}
 use borrow.Author.Tests.{le-leb}
 use lib.ListN.{length, getD, set}
-use Rattle.amounts.specs.Limits.{sizeMost, costMost, requestsMost}
+use Rattle.amounts.specs.Limits.{sizeMost, costMost, frequencyMost}
 use Rattle.amounts.specs.Worth.{Valued, productOf}
 use Rattle.amounts.proofs.Tests.{in-one-to}
 use Rattle.method.specs.Method as method
@@ -54,16 +54,16 @@ sized c = c .size .ensures ∙ c .before .wide32 .ensures
 costed : (c : tie.After-asked) → let x = size→start (asked→size c) .args in c .asked .result .0 ≡ getD (x .cost .now) (x .p) 0
 costed c = c .asked .ensures ∙ c .before .wide16 .ensures
 
--- the next frequency is the policy's, and within the run limit
+-- the next frequency is the policy's, and within its limit
 counted : (c : tie.After-again) → let x = size→start (asked→size (again→asked c)) .args in c .again .result ≡ freqAfter (x .a) (x .freq .now) (x .p)
 counted c =
     let x = size→start (asked→size (again→asked c)) .args in
     c .again .ensures ∙ ap (method.again (policyIn (x .a .settings))) (c .before .wide322 .ensures)
 
-few : (c : tie.After-again) → c .again .result ≤ requestsMost
-few c =
+seldom : (c : tie.After-again) → c .again .result ≤ frequencyMost
+seldom c =
     let start = size→start (asked→size (again→asked c)) in
-    omega (arith, counted c, again-most (policyIn (start .args .a .settings)) (getD (start .args .freq .now) (start .args .p) 0), start .pre .few)
+    omega (arith, counted c, again-most (policyIn (start .args .a .settings)) (getD (start .args .freq .now) (start .args .p) 0) (start .pre .seldom))
 
 -- what the key adds to inflation
 added : (c : tie.After-product) → let x = size→start (asked→size (again→asked (c .before))) .args in
@@ -117,7 +117,7 @@ product-requires : tie.Need-product-requires
 product-requires c κs =
     let asked = again→asked c in
     let size = asked→size asked in
-    (subst₂ Valued (sym (sized size)) (sym (costed asked)) (size→start size .pre .valued), few c)
+    (subst₂ Valued (sym (sized size)) (sym (costed asked)) (size→start size .pre .valued), seldom c)
 
 plus-requires : tie.Need-plus-requires
 plus-requires c κs = omega (arith, added c, size→start (asked→size (again→asked (c .before))) .pre .fits)
@@ -134,7 +134,7 @@ wide16-requires-2 : tie.Need-wide16-requires-2
 wide16-requires-2 c κs = search needs
 
 cast-freq : tie.Need-cast-freq
-cast-freq c = omega (arith, few (plus→again (c .before .before)))
+cast-freq c = omega (arith, seldom (plus→again (c .before .before)))
 
 mul-freq : tie.Need-mul-freq
 mul-freq c =

@@ -1,10 +1,9 @@
 -- `pieces::limit::over_limit` is safe and ends: each part leaves the lengths of the lent tables. Assumes nothing.
 use Prim.Native.Nat.{_-_}
-use mathlib.Core.Path.{_≡_, refl, sym, _∙_}
+use mathlib.Core.Path.{_≡_, refl, _∙_}
 use native.Mathlib.Omega.{arith}
 use borrow.Author.Needs.{needs}
 use lib.ListN.{length}
-use lib.Seq.{length-take-le}
 use Rattle.tables.specs.Tables.{tables}
 use Rattle.shelving.proofs.Dropping.{SameLengths, same-lengths}
 use Rattle.pieces.proofs.limit.over_limit.Statement.{statement}
@@ -15,14 +14,11 @@ Inv-loop place₀ file₀ size₀ cost₀ freq₀ key₀ stamp₀ queue₀ part 
     SameLengths (tables place₀ file₀ size₀ cost₀ freq₀ key₀ stamp₀ queue₀) (tables place file size cost freq key stamp queue) × (length events ≡ length events₀)
 
 abbrev μ-loop : tie.MeasureT-loop
-μ-loop place₀ file₀ size₀ cost₀ freq₀ key₀ stamp₀ queue₀ part events₀ ran₀ i₀ place file size cost freq key stamp queue events ran i = 65 - i
+μ-loop place₀ file₀ size₀ cost₀ freq₀ key₀ stamp₀ queue₀ part events₀ ran₀ i₀ place file size cost freq key stamp queue events ran i = 2 - i
 
 -- ways back
-abbrev part→length : tie.After-carry-on-arg9 Inv-loop μ-loop → tie.After-length-at Inv-loop μ-loop
-part→length c = c .before .before .before .before .before .before .before .before .before
-
 abbrev carried→turn : tie.After-carry-on Inv-loop μ-loop → tie.In-loop Inv-loop μ-loop
-carried→turn c = c .before .before .before .before .before .before .before .before .before .before .before .before .before .before
+carried→turn c = c .before .before .before .before .before .before .before .before .before .before .before .before
 
 abbrev place→turn : tie.After-place Inv-loop μ-loop → tie.In-loop Inv-loop μ-loop
 place→turn c = carried→turn (c .before)
@@ -32,12 +28,6 @@ events→place c = c .before .before .before .before .before .before .before .be
 
 loop-holds : tie.Need-loop-holds Inv-loop μ-loop
 loop-holds c = (same-lengths _, refl)
-
-length-at-requires : tie.Need-length-at-requires Inv-loop μ-loop
-length-at-requires c κs = search needs
-
-slice-aggregate-carry-on : tie.Need-slice-aggregate-carry-on Inv-loop μ-loop
-slice-aggregate-carry-on c = sym (length-take-le _ _ (part→length c .length-at .ensures))
 
 carry-on-requires : tie.Need-carry-on-requires Inv-loop μ-loop
 carry-on-requires c κs = search needs
@@ -106,5 +96,5 @@ returns c = search needs
 pub over-limit-spec : {M : Type 1} → statement M
 over-limit-spec =
     tie.close
-    (tie.spec Inv-loop μ-loop loop-holds length-at-requires slice-aggregate-carry-on carry-on-requires add-i loop-less loop-again same-length
+    (tie.spec Inv-loop μ-loop loop-holds carry-on-requires add-i loop-less loop-again same-length
     same-length-2 same-length-3 same-length-4 same-length-5 same-length-6 same-length-7 same-length-8 same-length-9 returns)

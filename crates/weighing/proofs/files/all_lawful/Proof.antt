@@ -31,8 +31,8 @@ loop-holds c = λ k l. absurd (omega arith)
 
 is-lawful-requires : tie.Need-is-lawful-requires Inv-loop μ-loop
 is-lawful-requires c κs =
-    let count = loop→count (c .before) in let pre = count→start count .pre in
-    (pre .0, (omega (arith, count .count .ensures, c .loop-test .taken), pre .1))
+    let count = loop→count (c .before) in
+    (omega (arith, count .count .ensures, c .loop-test .taken), count→start count .pre)
 
 returns : tie.Need-returns Inv-loop μ-loop
 returns c =

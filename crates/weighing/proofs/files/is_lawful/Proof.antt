@@ -109,7 +109,7 @@ returns-4 c =
     let back = right→back c in let inside = back→inside back in
     let placed = inside→placed inside in let start = placed→start placed in
     let x = start .args in
-    lawful-as (x .settings) (x .inflation .0) (x .requests) (lent start) (x .f) (placed .if1 .left) (start .pre .1 .0)
+    lawful-as (x .settings) (x .inflation .0) (x .requests) (lent start) (x .f) (placed .if1 .left) (start .pre .0)
     (omega (arith, inside .before .count .ensures, inside .if2 .left)) (back .if3 .left) (c .is-right .ensures)
 
 pub is-lawful-spec : {M : Type 1} → statement M

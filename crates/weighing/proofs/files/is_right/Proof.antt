@@ -29,7 +29,7 @@ returns-3 : tie.Need-returns-3
 returns-3 c = answer-no (λ w. omega (arith, w .fine .freq))
 
 returns-4 : tie.Need-returns-4
-returns-4 c = answer-no (λ w. omega (arith, w .few))
+returns-4 c = answer-no (λ w. omega (arith, w .fine .seldom, c .if4 .taken))
 
 is-once-requires : tie.Need-is-once-requires
 is-once-requires c κs = search needs
@@ -64,8 +64,8 @@ returns-8 c =
     let product = c .before .before in let least = product .before in
     let once : tie.Else5 = search in
     let priced : tie.Else2 = search in
-    right-last (record { valued = valued priced; freq = omega arith; once = passed (once .before .is-once .ensures) (once .if5 .left) })
-    (omega arith) (omega arith) (leb-true _ _ (allowed (least .before .at-most .ensures) (least .if7 .left)))
+    right-last (record { valued = valued priced; freq = omega arith; seldom = omega arith; once = passed (once .before .is-once .ensures) (once .if5 .left) })
+    (omega arith) (leb-true _ _ (allowed (least .before .at-most .ensures) (least .if7 .left)))
     (c .before .minus .ensures) (product .kept-product .ensures) (c .at-most2 .ensures)
 
 pub is-right-spec : {M : Type 1} → statement M

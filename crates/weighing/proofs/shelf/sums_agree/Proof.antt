@@ -2,13 +2,13 @@
 use mathlib.Core.Path.{_∙_}
 use native.Mathlib.Omega.{arith}
 use borrow.Author.Needs.{needs}
-use borrow.Author.Tests.{eq-eqb, leb-true, le-leb}
+use borrow.Author.Tests.{eq-eqb, le-leb}
 use Rattle.amounts.proofs.Tests.{allowed}
 use Rattle.method.specs.Shelf.{Shelf}
 use Rattle.tables.specs.Tables.{shelfOf}
 use Rattle.weighing.specs.Weighing.{Summed}
 use Rattle.weighing.proofs.Adding.{weighed, summed-weighed}
-use Rattle.weighing.proofs.Laws.{balanced-last}
+use Rattle.weighing.proofs.Laws.{worths-few, balanced-lifts, balanced-last}
 use Rattle.tables.proofs.Answers.{answer-no, answer-denied}
 use Rattle.weighing.proofs.shelf.sums_agree.Statement.{statement}
 use Rattle.weighing.proofs.shelf.sums_agree.Tie as tie
@@ -33,8 +33,11 @@ freqs→fits c = c .before .before .before
 abbrev freqs→sums : tie.Else4 → tie.After-sum-kept
 freqs→sums c = files→sums (bytes→files (fits→bytes (freqs→fits c)))
 
+abbrev least→worths : tie.Else5 → tie.After-worths
+least→worths c = c .before .before .before
+
 abbrev least→freqs : tie.Else5 → tie.Else4
-least→freqs c = c .before .before .before
+least→freqs c = least→worths c .before
 
 abbrev shelf : tie.Start → Shelf
 shelf s = let x = s .args in shelfOf (x .a .settings .catalogue .0) (weighed (x .place .now) (x .size .now) (x .cost .now) (x .freq .now))
@@ -66,41 +69,36 @@ returns-4 c =
     let fit = c .before .before .before in
     answer-no (λ s. omega (arith, summed (files→sums (bytes→files (fits→bytes fit))) .freqs, s .freqs, c .if4 .taken))
 
-most-requires : tie.Need-most-requires
-most-requires c κs = sums→start (freqs→sums c) .pre .1
-
-at-most-requires-2 : tie.Need-at-most-requires-2
-at-most-requires-2 c κs = search needs
+worths-requires : tie.Need-worths-requires
+worths-requires c κs = sums→start (freqs→sums c) .pre .1
 
 returns-5 : tie.Need-returns-5
-returns-5 c =
-    let most = c .before .before in let a = sums→start (freqs→sums (most .before)) .args .a in
-    answer-denied (c .before .at-most2 .ensures) (c .if5 .taken) (λ s. le-leb (a .inflation .0) (most .most .result .0) (omega (arith, s .total, most .most .ensures)))
+returns-5 c = answer-no (balanced-lifts _ _ (c .before .before .before .worths .ensures) (c .if5 .taken))
 
-sum-products-requires : tie.Need-sum-products-requires
-sum-products-requires c κs =
-    let freqs = least→freqs c in let pre = sums→start (freqs→sums freqs) .pre in
-    (pre .0, omega (arith, freqs .if4 .left, summed (freqs→sums freqs) .freqs, pre .1))
+whole-requires : tie.Need-whole-requires
+whole-requires c κs =
+    let worths = least→worths c in
+    omega (arith, worths-few _ (sums→start (freqs→sums (worths .before)) .pre .1) (worths .worths .ensures), c .if5 .left)
 
-minus-requires : tie.Need-minus-requires
-minus-requires c κs =
-    let least = c .before in
-    leb-true _ _ (allowed (least .before .at-most2 .ensures) (least .if5 .left))
+add-products-requires : tie.Need-add-products-requires
+add-products-requires c κs =
+    let least = c .before in let pre = sums→start (freqs→sums (least→freqs least)) .pre in
+    let most = worths-few _ (pre .1) (least→worths least .worths .ensures) in
+    (c .whole .ensures .normal, (omega (arith, most, least .if5 .left, c .whole .ensures .value), pre .0))
 
-at-most-requires-3 : tie.Need-at-most-requires-3
-at-most-requires-3 c κs = search needs
+at-most-requires-2 : tie.Need-at-most-requires-2
+at-most-requires-2 c κs = (c .add-products .ensures .normal, least→worths (c .before .before) .worths .ensures .normal)
 
 returns-6 : tie.Need-returns-6
 returns-6 c =
-    let products = c .before .before in let least = products .before in
+    let products = c .before in let whole = products .before in let least = whole .before in
     let freqs = least→freqs least in let fits = freqs→fits freqs in
     let bytes = fits→bytes fits in let files = bytes→files bytes in
-    balanced-last _ _ (summed (files→sums files)) (files .if1 .left) (allowed (bytes .before .same .ensures) (bytes .if2 .left))
-    (allowed (fits .before .at-most .ensures) (fits .if3 .left)) (freqs .if4 .left) (least .before .before .most .ensures)
-    (allowed (least .before .at-most2 .ensures) (least .if5 .left)) (c .before .minus .ensures) (products .sum-products .ensures) (c .at-most3 .ensures)
+    balanced-last _ _ (least→worths least .worths .ensures) (summed (files→sums files)) (files .if1 .left) (allowed (bytes .before .same .ensures) (bytes .if2 .left))
+    (allowed (fits .before .at-most .ensures) (fits .if3 .left)) (freqs .if4 .left) (whole .whole .ensures) (products .add-products .ensures) (c .at-most2 .ensures)
 
 pub sums-agree-spec : {M : Type 1} → statement M
 sums-agree-spec =
     tie.close
-    (tie.spec sum-kept-requires returns same-requires returns-2 at-most-requires returns-3 returns-4 most-requires at-most-requires-2 returns-5
-    sum-products-requires minus-requires at-most-requires-3 returns-6)
+    (tie.spec sum-kept-requires returns same-requires returns-2 at-most-requires returns-3 returns-4 worths-requires returns-5 whole-requires
+    add-products-requires at-most-requires-2 returns-6)

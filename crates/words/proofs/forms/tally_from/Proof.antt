@@ -61,6 +61,9 @@ shared-slice-read-t36 c = search needs
 shared-slice-read-t39 : tie.Need-shared-slice-read-t39
 shared-slice-read-t39 c = search needs
 
+shared-slice-read-t41 : tie.Need-shared-slice-read-t41
+shared-slice-read-t41 c = search needs
+
 returns : tie.Need-returns
 unfolding tallyIn
 returns c =
@@ -73,4 +76,4 @@ tally-from-spec =
     (tie.spec shared-slice-read-settings-from shared-slice-read-settings-from-2 shared-slice-read-settings-from-3 shared-slice-read-settings-from-4
     shared-slice-read-settings-from-5 settings-from-requires shared-slice-read-t4 shared-slice-read-t12 shared-slice-read-t10 shared-slice-read-t8
     shared-slice-read-t6 shared-slice-read-t21 shared-slice-read-t23 shared-slice-read-t25 shared-slice-read-t27 shared-slice-read-t30
-    shared-slice-read-t33 shared-slice-read-t36 shared-slice-read-t39 returns)
+    shared-slice-read-t33 shared-slice-read-t36 shared-slice-read-t39 shared-slice-read-t41 returns)

@@ -1,0 +1,2 @@
+-- What the contracts of the large numbers cite.
+pub mod Large
