@@ -35,7 +35,7 @@ pub fn worth(cost: u64, size: u64) -> u64 {
     cost * SCALE / size
 }
 
-/// Frequency times worth, wide enough for any record in range.
+/// What a key is above inflation, rounded down once; wide enough for any record in range.
 pub fn product(frequency: u64, cost: u64, size: u64) -> u128 {
-    u128::from(frequency) * u128::from(worth(cost, size))
+    u128::from(frequency) * u128::from(cost * SCALE) / u128::from(size)
 }

@@ -1,6 +1,8 @@
 //! The bench pieces, the sheet of the example, and round trips.
 
-use super::limits::{in_force, worth, MOST_REQUESTS, MOST_SIZE, MOST_WORTH};
+use super::limits::{
+    in_force, product, worth, LIFT, MOST_COST, MOST_FREQUENCY, MOST_REQUESTS, MOST_SIZE, MOST_WORTH,
+};
 use super::red_card::Refusal;
 use super::run::{Outcome, Run};
 use super::sheet::{sheet, SHEET_INPUT};
@@ -99,6 +101,16 @@ fn worth_is_rounded_down() {
     assert_eq!(worth(1, MOST_SIZE), 1);
     assert_eq!(worth(65_535, 1), MOST_WORTH);
     assert_eq!(MOST_WORTH, 1_099_494_850_560);
+}
+
+#[test]
+fn the_product_is_rounded_down_once() {
+    assert_eq!(product(5, 1, 9_000_000), 9);
+    assert_eq!(product(1, 1, 9_000_000), 1);
+    assert_eq!(product(3, 1, 3), 16_777_216);
+    let largest = product(MOST_FREQUENCY, MOST_COST, 1);
+    assert_eq!(largest, 1_152_902_812_925_952_000);
+    assert!(largest < LIFT.into());
 }
 
 #[test]

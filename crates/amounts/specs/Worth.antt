@@ -1,4 +1,4 @@
--- Worth, frequency × worth and the cost in force (document 01, "Numbers"). Assumes nothing.
+-- Worth, the product and the cost in force (document 01, "Numbers"; document 02, ticket 6). Assumes nothing.
 use Prim.Native.Nat.{ℕ, _+_, _*_, _/_, _≤_}
 use lib.Dec.{eqb}
 use Rattle.amounts.specs.Limits.{pick, sizeMost, costMost}
@@ -14,9 +14,9 @@ worthOf size cost = cost * scale / size
 abbrev pub worthMost : ℕ
 worthMost = 1099494850560
 
--- document 001, section 5, (1): what a file's key is above the clock; nothing else knows that it is a product
+-- document 02, ticket 6: frequency × cost × 16,777,216 / size, rounded down once; what a key is set above the clock by (document 001, section 5, (1))
 unfoldable pub productOf : ℕ → ℕ → ℕ → ℕ
-productOf frequency size cost = frequency * worthOf size cost
+productOf frequency size cost = frequency * (cost * scale) / size
 
 -- document 000, section 5.2: the packet estimate, with the quotient rounded down
 unfoldable pub packets : ℕ → ℕ

@@ -1,11 +1,11 @@
-// A key, as inflation, worth and frequency × worth are too; and which of two files is lower.
+// A key, as inflation and the product are too; and which of two files is lower.
 use crate::bytes::Bytes;
 use crate::cost::Cost;
 ghost use mathlib.Core.Path.{_≡_};
 ghost use Prim.Native.Nat.{_+_, _-_, _<_, _≤_};
 ghost use lib.Dec.{leb};
 ghost use Rattle.amounts.specs.Limits.{frequencyMost, word};
-ghost use Rattle.amounts.specs.Worth.{worthOf, productOf, Valued};
+ghost use Rattle.amounts.specs.Worth.{productOf, Valued};
 ghost use Rattle.amounts.specs.Order.{lowerOf};
 
 pub struct Key(pub u64);
@@ -46,22 +46,13 @@ impl Key {
     }
 }
 
-// Cost × scale / size, rounded down.
-pub fn worth(size: Bytes, cost: Cost) -> Key
-    requires { ⌜ Valued (size .0) (cost .0) ⌝ }
-    ensures { λ r. ⌜ r .0 ≡ worthOf (size .0) (cost .0) ⌝ }
-{
-    Key(cost.0 * Key::SCALE / size.0)
-}
-
-// Frequency × worth.
+// Frequency × cost × scale / size, rounded down once.
 pub fn product(frequency: u64, size: Bytes, cost: Cost) -> Key
     requires { ⌜ Valued (size .0) (cost .0) ⌝ }
     requires { ⌜ frequency ≤ frequencyMost ⌝ }
     ensures { λ r. ⌜ r .0 ≡ productOf frequency (size .0) (cost .0) ⌝ }
 {
-    let w = worth(size, cost);
-    Key(frequency * w.0)
+    Key(frequency * (cost.0 * Key::SCALE) / size.0)
 }
 
 // Whether file a is lower than file b: the smaller key; among equal keys, the smaller stamp.

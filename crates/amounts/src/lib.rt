@@ -10,7 +10,6 @@ pub use cost::Cost;
 pub use key::Key;
 pub use key::lower;
 pub use key::product;
-pub use key::worth;
 pub use settings::Catalogue;
 pub use settings::Places;
 pub use settings::Policy;

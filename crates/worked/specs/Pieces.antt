@@ -1,9 +1,9 @@
--- The bench pieces of document 01 that are marked P, as a single statement over one list. Assumes nothing.
+-- The bench pieces of document 01 that are marked P, and the product of document 02, ticket 6, as a single statement over one list. Assumes nothing.
 use mathlib.Core.Path.{_≡_, refl}
 use mathlib.Core.List.{List, [], _∷_, _++_, map}
 use Prim.Native.Nat.{ℕ}
 use lib.ListN.{length, replicate}
-use Rattle.amounts.specs.Limits.{oneTo}
+use Rattle.amounts.specs.Limits.{frequencyMost, oneTo}
 use Rattle.amounts.specs.Worth.{worthOf, productOf, packets, inForce}
 use Rattle.amounts.specs.Order.{lowerOf}
 use Rattle.amounts.specs.Requests.{Request}
@@ -67,10 +67,11 @@ rowsOf r =
 abbrev line : Card → List ℕ
 line c = c .number ∷ c .values
 
--- the five pieces, in document 01's order; the first run is under the policy that was read, the second under policy 2
+-- document 01's five pieces in its order, with document 02's product after worth; the first run is under the policy that was read, the second under policy 2
 abbrev pub computed : List (List ℕ)
 computed =
     (worthOf 3 1 ∷ worthOf 16777215 1 ∷ worthOf 1 65535 ∷ [])
+    ∷ (productOf 5 9000000 1 ∷ productOf 1 9000000 1 ∷ productOf frequencyMost 1 65535 ∷ [])
     ∷ (inForce 535 0 ∷ inForce 536 0 ∷ inForce 16777215 0 ∷ [])
     ∷ line (fileAnswer trace 6)
     ∷ rowsOf (runOf (policyOf (policyIn opening))) ++ rowsOf (runOf gdsf)
@@ -86,6 +87,7 @@ totalsDue = 6 ∷ 1 ∷ 4 ∷ 1 ∷ 2 ∷ 0 ∷ 336 ∷ 64 ∷ 12 ∷ 4 ∷ []
 abbrev pub expected : List (List ℕ)
 expected =
     (5592405 ∷ 1 ∷ 1099494850560 ∷ [])
+    ∷ (9 ∷ 1 ∷ 1152902812925952000 ∷ [])
     ∷ (2 ∷ 3 ∷ 31302 ∷ [])
     ∷ (0 ∷ 7 ∷ 1 ∷ 100 ∷ 8 ∷ 16 ∷ 6 ∷ [])
     ∷ (65537 ∷ 65538 ∷ 32769 ∷ 163842 ∷ 65539 ∷ 163841 ∷ 65538 ∷ 98308 ∷ [])

@@ -3,7 +3,7 @@
 
 use std::collections::{BTreeSet, HashMap};
 
-use bench::model::limits::{in_force, worth, MOST_FREQUENCY};
+use bench::model::limits::{in_force, worth, MOST_FREQUENCY, SCALE};
 use bench::model::tally::Settings;
 
 #[derive(Clone, Copy)]
@@ -86,7 +86,7 @@ impl Usual {
         if self.settings.policy == 2 {
             record.frequency = (record.frequency + 1).min(MOST_FREQUENCY);
         }
-        record.key = self.inflation + record.frequency * worth(record.cost, record.size);
+        record.key = self.inflation + record.frequency * record.cost * SCALE / record.size;
         record.stamp = self.served;
         self.order.insert((record.key, record.stamp, file));
     }

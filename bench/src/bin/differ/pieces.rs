@@ -115,6 +115,7 @@ pub fn all(random: &mut Random) -> Verdict {
     answers.push(piece(random, one_place, &fields, &events)?.1);
 
     answers.extend(recuts(random)?);
+    answers.push(videos(random)?);
     for sample in SAMPLES {
         let mut out = vec![0; sheet(sample).len()];
         answers.push(agree::sheet(sample, &mut out)?);
@@ -146,8 +147,33 @@ fn recuts(random: &mut Random) -> Verdict {
     let fields = [[1, 50, 9], [2, 40, 9], [2, 40, 9], [1, 100, 1]];
     let events = [(2, 1), (2, 2), (1, 2), (6, 1), (4, 1)];
     let (lent, second) = piece(random, second, &fields, &events)?;
-    agree::same_list("keys", &keys(&lent), &[(2, 7_549_746)])?;
+    agree::same_list("keys", &keys(&lent), &[(2, 7_549_747)])?;
     Ok(vec![first, second])
+}
+
+/// Ticket 6's video, asked for five times, stays before a smaller one of worth 6; rounded twice it would have gone at 5.
+fn videos(random: &mut Random) -> Result<Answer, String> {
+    let settings = Settings {
+        policy: 2,
+        capacity: 12_000_000,
+        ..SETTINGS
+    };
+    let asked = [1, 9_000_000, 1];
+    let smaller = [[2, 2_500_000, 1], [3, 2_000_000, 1]];
+    let fields = [[asked; 5].as_slice(), &smaller].concat();
+    let events = [
+        (2, 1),
+        (1, 1),
+        (1, 1),
+        (1, 1),
+        (1, 1),
+        (2, 2),
+        (5, 2),
+        (2, 3),
+    ];
+    let (lent, answer) = piece(random, settings, &fields, &events)?;
+    agree::same_list("keys", &keys(&lent), &[(1, 9), (3, 8)])?;
+    Ok(answer)
 }
 
 /// More than a million requests pass in one call; then as many more as a run may have, and one more is refused.

@@ -1,27 +1,20 @@
 -- `amounts::key::product` meets its contract. Assumes nothing.
-use mathlib.Core.Path.{ap}
-use Prim.Native.Nat.{ℕ, _*_, _≤_}
-use native.Mathlib.Omega.{arith}
-use native.Mathlib.Nat.{mul-le-mul}
+use mathlib.Core.Path.{_≡_, refl}
+use Prim.Native.Nat.{ℕ, _*_, _/_}
 use borrow.Author.Needs.{needs}
-use Rattle.amounts.specs.Limits.{frequencyMost}
-use Rattle.amounts.specs.Worth.{worthMost, productOf}
-use Rattle.amounts.proofs.Values.{worth-most}
+use Rattle.amounts.specs.Worth.{scale, productOf}
+use Rattle.amounts.proofs.Values.{fitting}
 use Rattle.amounts.proofs.key.product.Statement.{statement}
 use Rattle.amounts.proofs.key.product.Tie as tie
 
-worth-requires : tie.Need-worth-requires
-worth-requires c κs = search needs
-
-mul-t5 : tie.Need-mul-t5
-mul-t5 c =
-    let w : c .before .worth .result .0 ≤ worthMost = omega (arith, c .before .worth .ensures, worth-most _ _ (c .before .before .pre .0)) in
-    let m : c .before .before .args .frequency * c .before .worth .result .0 ≤ frequencyMost * worthMost = mul-le-mul (c .before .before .pre .1) w in
-    omega arith
+-- the definition by its text, so that where another is returned both stand in the error
+due : (frequency size cost : ℕ) → frequency * (cost * scale) / size ≡ productOf frequency size cost
+unfolding productOf
+due frequency size cost = refl
 
 returns : tie.Need-returns
-unfolding productOf
-returns c = ap (λ (w : ℕ). c .before .before .args .frequency * w) (c .before .worth .ensures)
+returns c = due _ _ _
 
+-- each operation is answered from one set, so that an exchange of two of them shows in what is returned
 pub product-spec : {M : Type 1} → statement M
-product-spec = tie.close (tie.spec worth-requires mul-t5 returns)
+product-spec = tie.close (tie.spec (λ c. search (needs, fitting)) (λ c. search (needs, fitting)) (λ c. search (needs, fitting)) returns)
