@@ -15,7 +15,7 @@ use Rattle.counting.specs.Counting.{tallied, hitTotals, Countable}
 abbrev pub freqAfter : Tally → List ℕ → ℕ → ℕ
 freqAfter a freq p = again (policyIn (a .settings)) (getD freq p 0)
 
--- document 01, "The run": its next key, L + frequency × worth
+-- document 01, "The run": its next key, L + product
 abbrev pub keyAfter : Tally → List ℕ → List ℕ → List ℕ → ℕ → ℕ
 keyAfter a size cost freq p = a .inflation .0 + productOf (freqAfter a freq p) (getD size p 0) (getD cost p 0)
 

@@ -40,7 +40,7 @@ pub record Ledger : Type 0 where
 abbrev pub paid : Shelf → ℕ → Reply → Served Ledger
 paid s t a = record { state = record { shelf = s; stamp = suc t }; reply = a }
 
--- document 01, "Credit": setting a key sets the credit to frequency × worth
+-- document 01, "Credit": setting a key sets the credit to the product
 abbrev pub credited : ℕ → ℕ → ℕ → ℕ → Slot
 credited size cost f t = kept (record { size = size; cost = cost; freq = f; key = productOf f size cost; stamp = t })
 

@@ -95,7 +95,7 @@ served l s t a = record { state = record { inflation = l; shelf = s; stamp = suc
 abbrev pub missed : Request → List Gone → Outcome → Reply
 missed q e o = record { dropped = none; evicted = e; outcome = o; size = q .size; cost = q .cost }
 
--- document 001, section 5, (1): key = L + frequency × worth
+-- document 001, section 5, (1): key = L + product
 abbrev pub keyed : ℕ → ℕ → ℕ → ℕ → ℕ → Kept
 keyed l size cost f t = record { size = size; cost = cost; freq = f; key = l + productOf f size cost; stamp = t }
 

@@ -48,7 +48,7 @@ pub record Sound (p : Policy) (c : Settings) (l : ℕ) (s : Shelf) (t n : ℕ) :
   pub stamps : Each (λ r. r .stamp < t) s
   pub apart : Apart s
   pub freqs : sum (λ r. r .freq) s ≤ n
-  -- keys lie between inflation and inflation plus frequency times worth
+  -- keys lie between inflation and inflation plus the product
   pub keys : Each (λ r. (l ≤ r .key) × (r .key ≤ l + product r)) s
   pub total : l + sum product s ≤ n * worthMost
 

@@ -41,7 +41,7 @@ bytes s = sum (λ r. r .size) s
 abbrev pub files : Shelf → ℕ
 files s = sum (λ r. 1) s
 
--- frequency × worth of a kept file
+-- document 02, ticket 6: the product of a kept file
 abbrev pub product : Kept → ℕ
 product r = productOf (r .freq) (r .size) (r .cost)
 

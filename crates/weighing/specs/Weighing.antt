@@ -25,7 +25,7 @@ pub record Covered (places catalogue : ℕ) (t : Tables) : Type 0 where
   pub queue : List ℕ
   pub long : Long places catalogue (tables (t .place) (t .file) (t .size) (t .cost) (t .freq) (t .key) (t .stamp) queue)
 
--- document 01: a record in range, its stamp below requests, L ≤ key ≤ L + frequency × worth
+-- document 01: a record in range, its stamp below requests, L ≤ key ≤ L + product
 pub record Right (p : Policy) (l n : ℕ) (r : Kept) : Type 0 where
   pub fine : Fine p r
   pub stamp : r .stamp < n

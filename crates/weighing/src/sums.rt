@@ -51,7 +51,7 @@ pub(crate) fn sum_kept(catalogue: Catalogue, place: &[u16], size: &[u32], freq: 
     }
 }
 
-// Frequency × worth of a record, from the words of its tables.
+// The product of a record, from the words of its tables.
 pub(crate) fn kept_product(size: u32, cost: u16, freq: u64) -> Key
     requires { ⌜ Valued size cost ⌝ }
     requires { ⌜ freq ≤ frequencyMost ⌝ }
@@ -60,7 +60,7 @@ pub(crate) fn kept_product(size: u32, cost: u16, freq: u64) -> Key
     product(freq, Bytes::size(size as u64), Cost::asked(cost as u64))
 }
 
-// Frequency × worth of the files together, added to a number: each is below one lift.
+// The products of the files together, added to a number: each is below one lift.
 pub(crate) fn add_products(
     start: Large,
     catalogue: Catalogue,

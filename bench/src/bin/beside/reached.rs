@@ -7,7 +7,8 @@ use bench::model::tally::Tally;
 const NUMBERS: usize = 9;
 const RUN_LIMIT: usize = 5;
 
-const KINDS: [&str; 6] = ["hits", "admitted", "big", "low", "evicted", "dropped"];
+const KINDS: [&str; 6] = ["hits", "admitted", "big", LOW, "evicted", "dropped"];
+const LOW: &str = "low";
 const HIT: u32 = 1;
 
 /// Runs are counted by whether they have at least so many places.
@@ -17,6 +18,8 @@ const PLACES: [u64; 3] = [64, 512, 4_096];
 pub struct Reached {
     /// Calls with a tally too short for one archive alone, and those near its limit, are left out.
     pub shorter_tally: bool,
+    /// Under policy 1 no file is low.
+    has_low: bool,
     /// Calls since the run began.
     pub calls_of_run: u64,
     calls: [u64; NUMBERS],
@@ -31,9 +34,10 @@ pub struct Reached {
 }
 
 impl Reached {
-    pub fn none(shorter_tally: bool) -> Self {
+    pub fn none(shorter_tally: bool, policies: &[u64]) -> Self {
         Reached {
             shorter_tally,
+            has_low: policies.contains(&2),
             ..Reached::default()
         }
     }
@@ -92,7 +96,8 @@ impl Reached {
         let due = numbers.filter(|&(number, _)| number != RUN_LIMIT || !self.shorter_tally);
         let calls = due.map(|(number, &count)| (format!("a call that answers {number}"), count));
         let kinds = KINDS.iter().zip(self.kinds);
-        let events = kinds.map(|(kind, count)| (format!("an event of the kind {kind}"), count));
+        let due = kinds.filter(|&(&kind, _)| kind != LOW || self.has_low);
+        let events = due.map(|(kind, count)| (format!("an event of the kind {kind}"), count));
         let hits = ["stays", "moves"].iter().zip(self.lone_hits);
         let lone = hits.map(|(does, count)| (format!("a hit that {does} in the queue"), count));
         let sizes = PLACES.iter().zip(self.full);

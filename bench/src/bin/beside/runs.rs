@@ -12,15 +12,15 @@ use crate::both;
 use crate::reached::Reached;
 
 /// Compares so many runs, and tells the first difference or what they did not reach.
-pub fn compare_all(runs: u64, seed: u64) -> Result<(), String> {
-    println!("seed {seed}; the archive before gives what is due");
-    let mut reached = Reached::none(both::has_shorter_tally());
+pub fn compare_all(runs: u64, seed: u64, policies: &[u64]) -> Result<(), String> {
+    println!("seed {seed}, policies {policies:?}; the archive before gives what is due");
+    let mut reached = Reached::none(both::has_shorter_tally(), policies);
     if reached.shorter_tally {
         println!("it has a shorter tally: its limits are left out, and the last word is 0 from the start");
     }
     for run in 0..runs {
         let mut random = Random::of_case(seed, 0, run);
-        compare(&mut random, &mut reached).map_err(|difference| {
+        compare(&mut random, policies, &mut reached).map_err(|difference| {
             let call = reached.calls_of_run;
             format!("DIFFERENCE at seed {seed}, run {run}, call {call}: {difference}")
         })?;
@@ -34,8 +34,8 @@ pub fn compare_all(runs: u64, seed: u64) -> Result<(), String> {
     }
 }
 
-fn compare(random: &mut Random, reached: &mut Reached) -> Result<(), String> {
-    let settings = settings(random);
+fn compare(random: &mut Random, policies: &[u64], reached: &mut Reached) -> Result<(), String> {
+    let settings = settings(random, policies);
     let mut lent = make::old_lent(random, &settings);
     if reached.shorter_tally {
         lent.tally[TALLY_WORDS - 1] = 0;
@@ -67,7 +67,7 @@ fn compare(random: &mut Random, reached: &mut Reached) -> Result<(), String> {
 }
 
 /// Small stores more often than large ones; the places limit some, the bytes others, and some keep every file there is.
-fn settings(random: &mut Random) -> Settings {
+fn settings(random: &mut Random, policies: &[u64]) -> Settings {
     let most = MOST_PLACES >> random.below(13);
     let any = random.between(1, most);
     let places = random.pick(&[any, most]);
@@ -84,7 +84,7 @@ fn settings(random: &mut Random) -> Settings {
     ];
     Settings {
         unit: random.below(MOST_UNIT + 1),
-        policy: random.between(1, 2),
+        policy: random.pick(policies),
         capacity: random.pick(&capacities),
         places,
         catalogue: random.pick(&[few, many, many, MOST_CATALOGUE]),

@@ -15,7 +15,7 @@ const ARCHIVES: [&Library; 2] = [&BEFORE, &NOW];
 type End = (Vec<u32>, [u64; TALLY_WORDS], Tables);
 
 /// Prints a line for each trace, policy and number of places, or tells where the archives differ.
-pub fn time_all(requests: u64, runs: u64) -> Result<(), String> {
+pub fn time_all(requests: u64, runs: u64, policies: &[u64]) -> Result<(), String> {
     println!(
         "{requests} requests over {MOST_CATALOGUE} files, {runs} runs of each archive in turn"
     );
@@ -24,7 +24,7 @@ pub fn time_all(requests: u64, runs: u64) -> Result<(), String> {
     );
     println!("workload    policy places   before      now  now/before  lowest  highest");
     for workload in &workload::all(requests) {
-        for policy in [1, 2] {
+        for &policy in policies {
             for places in PLACES {
                 time(workload, policy, places, runs)?;
             }

@@ -78,12 +78,13 @@ const fn kind(
     }
 }
 
-const KINDS: [Kind; 45] = [
+const KINDS: [Kind; 46] = [
     kind("settings in and out of range", fresh::settings, &[0, 1]),
     kind("fresh start, tables too short", fresh::too_short, &[0, 2]),
     kind("fresh start over old contents, twins", fresh::twins, &[0]).recuts([100, 20, 0]),
     kind("fresh start, order of refusals", order::fresh, &[0, 1, 2]),
     kind("runs split into parts", runs::in_parts, &[0]).recuts([300, 50, 3]),
+    kind("large videos at low costs", runs::videos, &[0]),
     kind("event list just long enough", runs::event_room, &[0, 6]).recuts([100, 15, 1]),
     kind("requests near the run limit", runs::near_the_limit, &[0, 5]).recuts([80, 15, 1]),
     kind("carrying on, tables too short", runs::too_short, &[0, 2]),

@@ -1,6 +1,6 @@
 //! Whole runs, in one call and in parts, and the room and the limit they need.
 
-use bench::model::limits::MOST_CAPACITY;
+use bench::model::limits::{MOST_CAPACITY, MOST_SIZE};
 use bench::model::tally::Settings;
 use bench::model::trace::Request;
 use bench::random::Random;
@@ -97,6 +97,26 @@ pub fn too_short(random: &mut Random) -> Verdict {
     let mut events = make::exact_list(random, 100, |word| word as u32);
     let answer = agree::carry_on(settings.unit, &mut lent, &part, &mut events)?;
     Ok(vec![answer])
+}
+
+/// Large videos at low costs, worth 1 to 27, so that what rounding leaves of the frequency decides who goes.
+pub fn videos(random: &mut Random) -> Verdict {
+    let settings = Settings {
+        capacity: random.pick(&[20_000_000, 40_000_000, 80_000_000]),
+        catalogue: random.between(4, 24),
+        ..make::settings(random)
+    };
+    let sizes: Vec<u64> = (0..settings.catalogue)
+        .map(|_| random.between(3_000_000, MOST_SIZE))
+        .collect();
+    let requests: Vec<Request> = (0..120)
+        .map(|_| {
+            let file = random.below(settings.catalogue);
+            let (size, cost) = (sizes[file as usize], random.between(1, 5));
+            Request { file, size, cost }
+        })
+        .collect();
+    whole_and_in_parts(random, &settings, &requests)
 }
 
 /// Thousands of places, and enough requests to fill and turn them over.
