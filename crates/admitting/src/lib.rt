@@ -1,4 +1,6 @@
 // The admission of a newcomer by either policy, and what a request comes to before its own entry is told.
+#![tactic(auto)]
+
 mod admission;
 mod untold;
 

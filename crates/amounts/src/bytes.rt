@@ -4,7 +4,7 @@ ghost use Rattle.amounts.specs.Limits.{is_size, is_capacity, size_most, requests
 
 use crate::range::{one_to, total_of};
 
-#[derive(Drop)]
+#[derive(Clone, Copy)]
 pub struct Bytes(pub u64);
 
 impl Bytes {

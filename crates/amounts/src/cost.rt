@@ -6,7 +6,7 @@ ghost use Rattle.amounts.specs.Worth.{in_force};
 use crate::bytes::Bytes;
 use crate::range::total_of;
 
-#[derive(Drop)]
+#[derive(Clone, Copy)]
 pub struct Cost(pub u64);
 
 impl Cost {

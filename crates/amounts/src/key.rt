@@ -7,7 +7,7 @@ ghost use Rattle.amounts.specs.Order.{lower_of};
 use crate::bytes::Bytes;
 use crate::cost::Cost;
 
-#[derive(Drop)]
+#[derive(Clone, Copy)]
 pub struct Key(pub u64);
 
 impl Key {

@@ -1,4 +1,6 @@
 // The quantities of document 01, "Numbers": each a type of its own, with its limits, its range test, and all that is added, taken away or compared.
+#![tactic(auto)]
+
 mod bytes;
 mod cost;
 mod key;

@@ -7,7 +7,7 @@ use crate::bytes::Bytes;
 use crate::range::one_to;
 
 // The box that a run belongs to.
-#[derive(Drop)]
+#[derive(Clone, Copy)]
 pub struct Unit(pub u64);
 
 impl Unit {
@@ -35,7 +35,7 @@ impl Unit {
 }
 
 // 1 is GreedyDual-Size, 2 is GreedyDual-Size-Frequency.
-#[derive(Drop)]
+#[derive(Clone, Copy)]
 pub struct Policy(pub u64);
 
 impl Policy {
@@ -58,7 +58,7 @@ impl Policy {
 }
 
 // How many files are kept at once.
-#[derive(Drop)]
+#[derive(Clone, Copy)]
 pub struct Places(pub u64);
 
 impl Places {
@@ -81,7 +81,7 @@ impl Places {
 }
 
 // How many file numbers there are.
-#[derive(Drop)]
+#[derive(Clone, Copy)]
 pub struct Catalogue(pub u64);
 
 impl Catalogue {
@@ -109,7 +109,7 @@ impl Catalogue {
 }
 
 // How many requests a run has served.
-#[derive(Drop)]
+#[derive(Clone, Copy)]
 pub struct Requests(pub u64);
 
 impl Requests {
@@ -131,7 +131,7 @@ impl Requests {
     }
 }
 
-#[derive(Drop)]
+#[derive(Clone, Copy)]
 pub struct Settings {
     pub unit: Unit,
     pub policy: Policy,

@@ -1,8 +1,10 @@
 // The red card: why a call refuses, with what it returns then (documents 01 and 02, "Numbers on the red card" and the tickets' refusals).
+#![tactic(auto)]
+
 ghost use Rattle.std.specs.Prelude.{◌≡◌};
 ghost use Rattle.card.specs.Card.{card_of, value_of};
 
-#[derive(Drop)]
+#[derive(Clone, Copy)]
 pub enum Refusal {
     // A setting is out of range.
     Setting,

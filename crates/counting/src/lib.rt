@@ -1,4 +1,6 @@
 // The tally of a run with one request more, counted where the tally stands.
+#![tactic(auto)]
+
 mod core;
 mod lent;
 mod with;

@@ -1,4 +1,6 @@
 // An old copy goes: the leaf that drops a kept file, and the test that finds a copy of another size.
+#![tactic(auto)]
+
 mod copy;
 mod stale;
 

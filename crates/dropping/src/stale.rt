@@ -9,7 +9,7 @@ use shelving::{wide16, wide32};
 use tables::Tally;
 
 // The tally once no stale copy of the file is kept, and where the next event is due.
-#[derive(Drop)]
+#[derive(Clone, Copy)]
 pub struct Cleaned {
     pub tally: Tally,
     pub due: usize,

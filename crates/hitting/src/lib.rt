@@ -1,4 +1,6 @@
 // A hit on a kept file.
+#![tactic(auto)]
+
 mod renewal;
 
 pub use renewal::hit;

@@ -1,4 +1,6 @@
 // The judge of soundness: whether a tally and tables that a caller hands in are sound, whatever words they hold.
+#![tactic(auto)]
+
 mod entries;
 mod places;
 mod stamps;

@@ -1,4 +1,6 @@
 // A number past 64 bits, in two words: lifts of 2 to the 60th, and what is left below one lift.
+#![tactic(auto)]
+
 ghost use Rattle.std.specs.Prelude.{◌≡◌, ◌+◌, ◌*◌, ◌<◌, ◌≤◌, leb};
 ghost use Rattle.amounts.specs.Limits.{word, lift, requests_most};
 ghost use Rattle.amounts.specs.Worth.{worth_most};
@@ -6,7 +8,7 @@ ghost use Rattle.large.specs.Large.{value_of, Normal, Is};
 
 use amounts::{Cost, Key};
 
-#[derive(Drop)]
+#[derive(Clone, Copy)]
 pub struct Large {
     pub high: u64,
     pub low: u64,

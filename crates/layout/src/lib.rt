@@ -1,4 +1,6 @@
 // The sheet of a trace: what the program prints (document 01, "The sheet").
+#![tactic(auto)]
+
 mod run;
 mod whole;
 

@@ -1,4 +1,6 @@
 // A lift: before a request, where L has reached 2 to the 60th, that amount is taken from L and from every key.
+#![tactic(auto)]
+
 ghost use Rattle.lifting.specs.Lifting.{Liftable, Lifted, Raisable, Raised};
 
 use amounts::Key;

@@ -1,4 +1,6 @@
 // The lines of the sheet, laid into a text (document 01, "The sheet").
+#![tactic(auto)]
+
 mod decimal;
 mod line;
 mod page;

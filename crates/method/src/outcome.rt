@@ -1,13 +1,13 @@
 // How a request ended.
 
 // Why a file that was asked for is not kept: larger than the store, or among the lowest itself.
-#[derive(Drop)]
+#[derive(Clone, Copy)]
 pub enum Pass {
     TooBig,
     LowKey,
 }
 
-#[derive(Drop)]
+#[derive(Clone, Copy)]
 pub enum Outcome {
     Hit,
     Admitted,

@@ -1,4 +1,6 @@
 // A part of a trace that was found good: nothing can fail while it is served.
+#![tactic(auto)]
+
 ghost use Rattle.tables.specs.Tables.{tables};
 ghost use Rattle.refusing.specs.Judging.{requests_in};
 ghost use Rattle.parts.specs.Parts.{Ready, PartServed};
@@ -9,7 +11,7 @@ use shelving::{wide16, wide32};
 use tables::Tally;
 
 // The tally after a part, and how many events it wrote.
-#[derive(Drop)]
+#[derive(Clone, Copy)]
 pub struct Ended {
     pub tally: Tally,
     pub events: usize,

@@ -10,13 +10,13 @@ use totals::counts_agree;
 // 2 to the 53rd, up to which a double has every count exactly.
 const EXACT: u64 = 9007199254740992;
 
-#[derive(Drop)]
+#[derive(Clone, Copy)]
 pub struct Ratios {
     pub hits: f64,
     pub bytes: f64,
 }
 
-#[derive(Drop)]
+#[derive(Clone, Copy)]
 pub enum Rated {
     Done(Ratios),
     Refused(Refusal),

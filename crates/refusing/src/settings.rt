@@ -8,7 +8,7 @@ use card::Refusal;
 use tables::{Tally, long_enough};
 
 // Nothing stands against the call so far, or the refusal.
-#[derive(Drop)]
+#[derive(Clone, Copy)]
 pub enum Settled {
     Fine,
     Refused(Refusal),

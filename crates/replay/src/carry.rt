@@ -12,7 +12,7 @@ use tables::Tally;
 use trace::Answer;
 
 // The answer, and the tally after the call: a refusal gives back the tally that it was given.
-#[derive(Drop)]
+#[derive(Clone, Copy)]
 pub struct Carried {
     pub answer: Answer,
     pub tally: Tally,

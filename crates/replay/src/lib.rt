@@ -1,4 +1,6 @@
 // A run carried on over a further part of its trace.
+#![tactic(auto)]
+
 mod carry;
 
 pub use carry::{Carried, carry_on};

@@ -1,4 +1,6 @@
 // One request: a hit, a pass, or an admission by either policy.
+#![tactic(auto)]
+
 mod request;
 mod step;
 

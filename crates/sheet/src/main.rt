@@ -1,4 +1,6 @@
 // Reads a trace file from standard input and prints its sheet (document 01, "The sheet").
+#![tactic(auto)]
+
 use layout::{INPUT_MOST, SHEET_MOST};
 use libc::{STDIN_FILENO, STDOUT_FILENO};
 use trace::Answer;

@@ -1,4 +1,6 @@
 // What an admission does to the tables: files kept and dropped, room made for a newcomer, and the evictions told.
+#![tactic(auto)]
+
 mod evict;
 mod keeping;
 mod records;

@@ -30,7 +30,7 @@ pub(crate) fn clear(
 }
 
 // What a run keeps of a file.
-#[derive(Drop)]
+#[derive(Clone, Copy)]
 pub struct Kept {
     pub size: Bytes,
     pub cost: Cost,

@@ -1,4 +1,6 @@
 // Squid's native access log, read into a trace (document 02, ticket 1).
+#![tactic(auto)]
+
 mod entry;
 mod field;
 mod log;

@@ -1,4 +1,6 @@
 // The lent tables and the tally of a run: what they stand for, and a fresh start.
+#![tactic(auto)]
+
 mod fill;
 mod length;
 mod start;

@@ -9,7 +9,7 @@ use crate::tally::Tally;
 use amounts::{Places, Settings};
 use card::Refusal;
 
-#[derive(Drop)]
+#[derive(Clone, Copy)]
 pub enum Started {
     Done(Tally),
     Refused(Refusal),

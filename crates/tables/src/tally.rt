@@ -4,7 +4,7 @@ ghost use Rattle.tables.specs.Tally.{fresh_tally};
 
 use amounts::{Bytes, Cost, Key, Settings};
 
-#[derive(Drop)]
+#[derive(Clone, Copy)]
 pub struct Tally {
     pub settings: Settings,
     pub inflation: Key,

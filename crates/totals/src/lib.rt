@@ -1,4 +1,6 @@
 // The totals of a tally, whatever words it holds: numbers alone, bounded before they are added or multiplied.
+#![tactic(auto)]
+
 ghost use Rattle.std.specs.Prelude.{◌≤◌};
 ghost use Rattle.amounts.specs.Limits.{requests_most, size_most, cost_most};
 ghost use Rattle.method.specs.Totals.{Amount};

@@ -1,4 +1,6 @@
 // Trace files and further parts of a trace: house numbers, what reading and writing mean, and the reader (document 01, "Trace bytes").
+#![tactic(auto)]
+
 mod answer;
 mod number;
 mod opening;

@@ -3,14 +3,14 @@ ghost use Rattle.std.specs.Prelude.{◌≡◌};
 ghost use Rattle.trace.specs.Steps.{Fine, taken, Numbered, NumberAt};
 
 // A number in the course of being read.
-#[derive(Drop)]
+#[derive(Clone, Copy)]
 pub struct Group {
     pub value: u64,
     pub scale: u64,
     pub count: u64,
 }
 
-#[derive(Drop)]
+#[derive(Clone, Copy)]
 pub enum Next {
     More(Group),
     Last(u64),
@@ -44,7 +44,7 @@ pub(crate) fn take_group(g: Group, b: u8) -> Next
 }
 
 // A number of the part, and the place after it.
-#[derive(Drop)]
+#[derive(Clone, Copy)]
 pub struct Number {
     pub value: u64,
     pub next: usize,

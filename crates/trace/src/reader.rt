@@ -78,7 +78,7 @@ pub fn scan(part: &[u8], catalogue: Catalogue, from: usize) -> Answer
 }
 
 // A request of the part, and the place after it.
-#[derive(Drop)]
+#[derive(Clone, Copy)]
 pub struct Taken {
     pub file: u16,
     pub size: u32,

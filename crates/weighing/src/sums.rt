@@ -12,7 +12,7 @@ use amounts::{Bytes, Catalogue, Cost, Key, Places, product};
 use large::Large;
 
 // How many files are kept, their sizes and their frequencies together.
-#[derive(Drop)]
+#[derive(Clone, Copy)]
 pub(crate) struct Sums {
     pub files: u64,
     pub bytes: Bytes,

@@ -1,4 +1,6 @@
 // Words at the boundary: an answer as one word, settings and tally as words, ratios as doubles.
+#![tactic(auto)]
+
 mod doubles;
 mod forms;
 

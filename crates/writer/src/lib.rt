@@ -1,4 +1,6 @@
 // The writer: requests of three lists as the bytes of a further part or of a file (document 01, "Trace bytes").
+#![tactic(auto)]
+
 mod lists;
 mod number;
 
