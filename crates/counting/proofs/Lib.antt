@@ -1,5 +1,2 @@
--- A tally's sums, and the walks of the functions that have a tally lent and of those that lend one.
+-- A tally whose sums are known one by one.
 pub mod Sums
-pub mod Citing
-pub mod LentWalk
-pub mod LendsWalk

@@ -1,5 +1,5 @@
 -- A tally whose four sums are known one by one. Assumes nothing.
-use Rattle.core.specs.Prelude.{◌≡◌, ℕ}
+use Rattle.std.specs.Prelude.{◌≡◌, ℕ}
 use Rattle.method.specs.Totals.{Totals}
 use Rattle.tables.specs.declared.tally.Tally.{Tally}
 use Rattle.counting.specs.Counting.{tallied}

@@ -1,5 +1,5 @@
 -- The tally with one request more (document 01, "Tables and the tally"). Assumes nothing.
-use Rattle.core.specs.Prelude.{ℕ, ◌+◌, ◌-◌, ◌*◌, ◌<◌}
+use Rattle.std.specs.Prelude.{ℕ, ◌+◌, ◌-◌, ◌*◌, ◌<◌}
 use Rattle.amounts.specs.Limits.{requests_most, lift}
 use Rattle.amounts.specs.Worth.{Valued}
 use Rattle.method.specs.Method as method

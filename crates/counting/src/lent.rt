@@ -1,8 +1,8 @@
 // The tally with one request more, counted where the tally stands.
-ghost use Rattle.core.specs.Prelude.{◌≡◌};
+ghost use Rattle.std.specs.Prelude.{◌≡◌};
 ghost use Rattle.counting.specs.Counting.{hit_tally, pass_tally, admit_tally, Countable};
 
-use crate::core::{admit_counted, hit_counted, pass_counted};
+use crate::counted::{admit_counted, hit_counted, pass_counted};
 use amounts::{Bytes, Cost};
 use tables::Tally;
 

@@ -1,7 +1,7 @@
 // The tally of a run with one request more, counted where the tally stands.
 #![tactic(auto)]
 
-mod core;
+mod counted;
 mod lent;
 mod with;
 

@@ -1,5 +1,5 @@
 // The tally with one request more, for a caller that holds it by value.
-ghost use Rattle.core.specs.Prelude.{◌≡◌};
+ghost use Rattle.std.specs.Prelude.{◌≡◌};
 ghost use Rattle.counting.specs.Counting.{hit_tally, pass_tally, admit_tally, Countable};
 
 use crate::lent::{count_admit, count_hit, count_pass};

@@ -98,7 +98,3 @@ expected =
     ∷ (3 ∷ 0 ∷ [])
     ∷ (0 ∷ 0 ∷ 1 ∷ 100 ∷ 8 ∷ 16 ∷ 0 ∷ [])
     ∷ []
-
-pub pieces : computed ≡ expected
-unfolding worth_of product_of packets in_force lower_of one_to run events totals step admit clear lowest sum read_of settings_of file_read
-pieces = refl

@@ -111,7 +111,3 @@ worth_less₂ =
 
 abbrev pub expected : List (List ℕ)
 expected = repeated₁ ++ repeated₂ ++ larger₁ ++ larger₂ ++ too_big_due ++ too_big_due ++ worth_less₂
-
-pub recuts : computed ≡ expected
-unfolding worth_of product_of packets in_force lower_of run events totals step admit clear lowest sum
-recuts = refl

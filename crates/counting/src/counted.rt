@@ -1,5 +1,5 @@
 // The tally with one request more, by its outcome, as a value of its own.
-ghost use Rattle.core.specs.Prelude.{◌≡◌};
+ghost use Rattle.std.specs.Prelude.{◌≡◌};
 ghost use Rattle.counting.specs.Counting.{hit_tally, pass_tally, admit_tally, Countable};
 
 use amounts::{Bytes, Cost};

@@ -1,0 +1,3 @@
+-- That what the pieces compute is what is expected.
+mod PiecesHold
+mod RecutsHold
