@@ -1,8 +1,9 @@
 // 4,294,967,295 requests pass; one more is 5.
 use crate::sheets::settings;
 use amounts::{Bytes, Cost, Places, Requests, Settings};
-use libc::STDOUT_FILENO;
 use replay::{Carried, carry_on};
+use std::io;
+use std::io::Print;
 use tables::Tally;
 use trace::Answer;
 
@@ -55,10 +56,8 @@ fn over_limit(
     ran
 }
 
-fn print_line(word: &[u8], n: u64) {
-    io::write_all(STDOUT_FILENO, word);
-    io::print_decimal(STDOUT_FILENO, n);
-    io::write_all(STDOUT_FILENO, b"\n");
+fn print_line(rt: &impl Print, word: &str, n: u64) -> io::Result<()> {
+    println!(rt; "{word} {n}")
 }
 
 // The number of an answer, 0 where it is done.
@@ -70,7 +69,7 @@ fn number_of(answer: Answer) -> u64 {
 }
 
 // The same over tables of its own, which such a run leaves as a fresh start does; file 1 of size 1 and cost 1 is asked for.
-pub(crate) fn run_limit() {
+pub(crate) fn run_limit(rt: &impl Print) -> io::Result<()> {
     let mut place = [Places::NONE; 4];
     let mut file = [0u16; 1];
     let mut size = [0u32; 1];
@@ -96,9 +95,9 @@ pub(crate) fn run_limit() {
         &mut events,
     );
     let t = ran.tally;
-    print_line(b"requests ", t.requests);
-    print_line(b"admitted ", t.admitted);
-    print_line(b"passed ", t.passed);
+    print_line(rt, "requests", t.requests)?;
+    print_line(rt, "admitted", t.admitted)?;
+    print_line(rt, "passed", t.passed)?;
     let answer = ran.answer;
-    print_line(b"refused ", number_of(answer));
+    print_line(rt, "refused", number_of(answer))
 }

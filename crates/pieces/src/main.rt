@@ -4,9 +4,11 @@
 mod limit;
 mod sheets;
 
-fn main() {
-    sheets::size_of_the_capacity();
-    sheets::one_place();
-    sheets::recut();
-    limit::run_limit();
+use std::io;
+
+fn main(rt: HostRuntime) -> io::Result<()> {
+    sheets::size_of_the_capacity(&rt)?;
+    sheets::one_place(&rt)?;
+    sheets::recut(&rt)?;
+    limit::run_limit(&rt)
 }

@@ -1,6 +1,7 @@
 // Pieces that a sheet shows: the trace is written, read back and run as the program would.
 use amounts::{Bytes, Catalogue, Places, Policy, Settings, Unit};
-use libc::STDOUT_FILENO;
+use std::io;
+use std::io::Print;
 use trace::Answer;
 
 // Settings of policy 1 with a catalogue of four.
@@ -20,50 +21,54 @@ pub(crate) fn settings(unit: u64, capacity: u64, places: u64) -> Settings {
 }
 
 // Writes the trace of the requests into a buffer and prints its sheet.
-fn print_sheet(settings: Settings, files: &[u16], sizes: &[u32], costs: &[u16]) {
+fn print_sheet(
+    rt: &impl Print,
+    settings: Settings,
+    files: &[u16],
+    sizes: &[u32],
+    costs: &[u16],
+) -> io::Result<()> {
     let mut bytes = [0u8; 64];
     let written = writer::write_file(settings, files, sizes, costs, &mut bytes);
     match written {
-        Answer::Refused(_) => {}
-        Answer::Done(count) => print_bytes(&bytes, count),
+        Answer::Refused(_) => Ok(()),
+        Answer::Done(count) => print_bytes(rt, &bytes, count),
     }
 }
 
 // Prints the sheet of the first bytes of a trace.
-fn print_bytes(bytes: &[u8], count: usize) {
+fn print_bytes(rt: &impl Print, bytes: &[u8], count: usize) -> io::Result<()> {
     if bytes.len() < count {
-        return;
+        return Ok(());
     }
     let mut out = [0u8; 1024];
     let laid = layout::sheet(&bytes[..count], &mut out);
     match laid {
-        Answer::Refused(_) => {}
-        Answer::Done(length) => {
-            io::write_all(STDOUT_FILENO, &out[..length]);
-        }
+        Answer::Refused(_) => Ok(()),
+        Answer::Done(length) => rt.write_all(&out[..length]),
     }
 }
 
 // Size equal to the capacity: kept. One more: big.
-pub(crate) fn size_of_the_capacity() {
+pub(crate) fn size_of_the_capacity(rt: &impl Print) -> io::Result<()> {
     let files = [1u16, 2];
     let sizes = [100u32, 101];
     let costs = [1u16, 1];
-    print_sheet(settings(1, 100, 4), &files, &sizes, &costs);
+    print_sheet(rt, settings(1, 100, 4), &files, &sizes, &costs)
 }
 
 // Places 1, policy 1: each new file evicts the one before.
-pub(crate) fn one_place() {
+pub(crate) fn one_place(rt: &impl Print) -> io::Result<()> {
     let files = [0u16, 1, 2, 3];
     let sizes = [10u32, 10, 10, 10];
     let costs = [1u16, 1, 1, 1];
-    print_sheet(settings(2, 100, 1), &files, &sizes, &costs);
+    print_sheet(rt, settings(2, 100, 1), &files, &sizes, &costs)
 }
 
 // A recut drops the old copy before it evicts; asked for again, it is a hit at the cost that is kept.
-pub(crate) fn recut() {
+pub(crate) fn recut(rt: &impl Print) -> io::Result<()> {
     let files = [1u16, 2, 1, 1];
     let sizes = [64u32, 32, 80, 80];
     let costs = [4u16, 1, 5, 9];
-    print_sheet(settings(4, 100, 4), &files, &sizes, &costs);
+    print_sheet(rt, settings(4, 100, 4), &files, &sizes, &costs)
 }

@@ -1,20 +1,36 @@
 // Reads a trace file from standard input and prints its sheet (document 01, "The sheet").
 #![tactic(auto)]
 
+ghost use Rattle.std.specs.Prelude.{◌≤◌, IfOk, length};
+
 use layout::{INPUT_MOST, SHEET_MOST};
-use libc::{STDIN_FILENO, STDOUT_FILENO};
+use std::io;
+use std::io::Read;
 use trace::Answer;
 
-fn main() {
+fn main(rt: HostRuntime) -> io::Result<()> {
     // One byte more than the most is enough to tell that there is too much.
     let mut input = [0u8; INPUT_MOST + 1];
-    let got = io::read_full(STDIN_FILENO, &mut input);
+    let got = read_full(&mut rt.stdin(), &mut input)?;
     let mut out = [0u8; SHEET_MOST];
     let answer = layout::sheet(&input[..got], &mut out);
     match answer {
-        Answer::Done(count) => {
-            io::write_all(STDOUT_FILENO, &out[..count]);
-        }
-        Answer::Refused(_) => {}
+        Answer::Done(count) => rt.write_all(&out[..count]),
+        Answer::Refused(_) => Ok(()),
     }
+}
+
+// Reads until the buffer is full or the input ends, and says how many bytes were put at its start.
+fn read_full<R: Read>(from: &mut R, buf: &mut [u8]) -> io::Result<usize>
+    ensures { IfOk result (λ n. n ≤ length buf.new) }
+{
+    let mut done = 0;
+    while done < buf.len() {
+        let n = from.read(&mut buf[done..])?;
+        if n == 0 {
+            break;
+        }
+        done += n;
+    }
+    Ok(done)
 }
