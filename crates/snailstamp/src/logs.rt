@@ -7,8 +7,7 @@ use squid::{squid_file, squid_part};
 use words::{answer_word, settings_from};
 
 // The bytes of a file over the front of `out`: the settings, then the requests of a log.
-#[unsafe(no_mangle)]
-pub extern "C" fn snailstamp_squid_file(
+pub fn snailstamp_squid_file(
     unit: u64,
     policy: u64,
     capacity: u64,
@@ -25,8 +24,7 @@ pub extern "C" fn snailstamp_squid_file(
 }
 
 // The bytes of a further part over the front of `out`: the requests of a log.
-#[unsafe(no_mangle)]
-pub extern "C" fn snailstamp_squid_part(catalogue: u64, log: &[u8], out: &mut [u8]) -> u64
+pub fn snailstamp_squid_part(catalogue: u64, log: &[u8], out: &mut [u8]) -> u64
     ensures { SquidPartWords catalogue log.now out.old result out.new }
 {
     let wrote = squid_part(Catalogue(catalogue), log, out);

@@ -29,8 +29,7 @@ fn put_rated(rated: Rated, out: &mut [f64]) -> u64
 }
 
 // Both ratios of the tally that the words stand for, over the front of a list.
-#[unsafe(no_mangle)]
-pub extern "C" fn snailstamp_ratios(tally: &[u64], ratios: &mut [f64]) -> u64
+pub fn snailstamp_ratios(tally: &[u64], ratios: &mut [f64]) -> u64
     ensures { RatioWords tally.now ratios.old result ratios.new }
 {
     if tally.len() < TALLY_WORDS {

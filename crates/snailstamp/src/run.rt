@@ -49,8 +49,7 @@ fn put_carried(carried: Carried, out: &mut [u64]) -> u64
 }
 
 // A fresh start over the lent tables, its tally over the front of the lent words.
-#[unsafe(no_mangle)]
-pub extern "C" fn snailstamp_fresh(
+pub fn snailstamp_fresh(
     unit: u64,
     policy: u64,
     capacity: u64,
@@ -80,8 +79,7 @@ pub extern "C" fn snailstamp_fresh(
 }
 
 // A run carried on over the tally that the words stand for.
-#[unsafe(no_mangle)]
-pub extern "C" fn snailstamp_carry_on(
+pub fn snailstamp_carry_on(
     unit: u64,
     tally: &mut [u64],
     place: &mut [u16],

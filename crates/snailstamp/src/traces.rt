@@ -53,8 +53,7 @@ fn put_read(read: FileRead, out: &mut [u64]) -> u64
 }
 
 // The settings of a file over the front of lent words, its requests over the fronts of three lists.
-#[unsafe(no_mangle)]
-pub extern "C" fn snailstamp_read_file(
+pub fn snailstamp_read_file(
     trace: &[u8],
     settings: &mut [u64],
     files: &mut [u16],
@@ -71,8 +70,7 @@ pub extern "C" fn snailstamp_read_file(
 }
 
 // The requests of a further part over the fronts of three lists.
-#[unsafe(no_mangle)]
-pub extern "C" fn snailstamp_read_part(
+pub fn snailstamp_read_part(
     catalogue: u64,
     part: &[u8],
     files: &mut [u16],
@@ -86,8 +84,7 @@ pub extern "C" fn snailstamp_read_part(
 }
 
 // The bytes of a file over the front of `out`.
-#[unsafe(no_mangle)]
-pub extern "C" fn snailstamp_write_file(
+pub fn snailstamp_write_file(
     unit: u64,
     policy: u64,
     capacity: u64,
@@ -106,8 +103,7 @@ pub extern "C" fn snailstamp_write_file(
 }
 
 // The bytes of a further part over the front of `out`.
-#[unsafe(no_mangle)]
-pub extern "C" fn snailstamp_write_part(
+pub fn snailstamp_write_part(
     catalogue: u64,
     files: &[u16],
     sizes: &[u32],

@@ -1,0 +1,49 @@
+-- `refusing::settings::judge_settings` meets its contract. Assumes nothing.
+use mathlib.Core.Path.{◌≡◌, ◌∙◌}
+use mathlib.Core.Bool.{true}
+use Rattle.amounts.specs.Limits.{is_unit}
+use Rattle.amounts.specs.Settings.{in_range}
+use Rattle.amounts.proofs.Tests.{told}
+use Rattle.tables.specs.Tables.{long_enough}
+use Rattle.refusing.specs.Judging.{settled}
+use Rattle.refusing.proofs.settings.judge_settings.Goals as goal
+
+pub returns-then-not-in_range : goal.returns-then-not-in_range
+unfolding settled
+returns-then-not-in_range c = simp (told c.in_range.ensures c.if-not-in_range.true)
+
+pub returns-then-not-in_range-2 : goal.returns-then-not-in_range-2
+unfolding settled
+returns-then-not-in_range-2 c =
+    let unit_passes : is_unit c.args.unit.0 ≡ true = told c.in_range.ensures c.if-not-in_range.false in
+    simp (unit_passes, told c.in_range-2.ensures c.if-not-in_range-2.true)
+
+pub returns-then-not-long_enough : goal.returns-then-not-long_enough
+unfolding settled
+returns-then-not-long_enough c =
+    let unit_passes : is_unit c.args.unit.0 ≡ true = told c.in_range.ensures c.if-not-in_range.false in
+    let range_passes : in_range c.args.a.settings ≡ true = told c.in_range-2.ensures c.if-not-in_range-2.false in
+    let lengths : let x = c.args in c.long_enough.result ≡ long_enough x.a.settings.places.0 x.a.settings.catalogue.0 x.place x.file x.size x.cost x.freq x.key x.stamp x.queue = let x = c.args in
+    c.long_enough.ensures
+    ∙ (λ i. long_enough (c.count-places.ensures i) (c.count-catalogue.ensures i) x.place x.file x.size x.cost x.freq x.key x.stamp x.queue) in
+    simp (unit_passes, range_passes, told lengths c.if-not-long_enough.true)
+
+pub returns-then-same : goal.returns-then-same
+unfolding settled
+returns-then-same c =
+    let unit_passes : is_unit c.args.unit.0 ≡ true = told c.in_range.ensures c.if-not-in_range.false in
+    let range_passes : in_range c.args.a.settings ≡ true = told c.in_range-2.ensures c.if-not-in_range-2.false in
+    let lengths : let x = c.args in c.long_enough.result ≡ long_enough x.a.settings.places.0 x.a.settings.catalogue.0 x.place x.file x.size x.cost x.freq x.key x.stamp x.queue = let x = c.args in
+    c.long_enough.ensures
+    ∙ (λ i. long_enough (c.count-places.ensures i) (c.count-catalogue.ensures i) x.place x.file x.size x.cost x.freq x.key x.stamp x.queue) in
+    simp (unit_passes, range_passes, told lengths c.if-not-long_enough.false, told c.same.ensures c.if-same.true)
+
+pub returns : goal.returns
+unfolding settled
+returns c =
+    let unit_passes : is_unit c.args.unit.0 ≡ true = told c.in_range.ensures c.if-not-in_range.false in
+    let range_passes : in_range c.args.a.settings ≡ true = told c.in_range-2.ensures c.if-not-in_range-2.false in
+    let lengths : let x = c.args in c.long_enough.result ≡ long_enough x.a.settings.places.0 x.a.settings.catalogue.0 x.place x.file x.size x.cost x.freq x.key x.stamp x.queue = let x = c.args in
+    c.long_enough.ensures
+    ∙ (λ i. long_enough (c.count-places.ensures i) (c.count-catalogue.ensures i) x.place x.file x.size x.cost x.freq x.key x.stamp x.queue) in
+    simp (unit_passes, range_passes, told lengths c.if-not-long_enough.false, told c.same.ensures c.if-same.false)
