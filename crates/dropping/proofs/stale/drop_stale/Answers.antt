@@ -1,8 +1,8 @@
 -- `dropping::stale::drop_stale` meets its contract. Assumes nothing.
 use Prim.Native.Nat.{◌+◌, ◌≤◌}
-use mathlib.Core.Path.{sym, ◌∙◌}
+use mathlib.Core.Path.{◌≡◌}
 use native.Mathlib.Omega.{arith}
-use lib.ListN.{length}
+use lib.ListN.{length, get_or}
 use Rattle.dropping.proofs.Cleanings.{still_out, still_same, space, known, drops}
 use Rattle.dropping.proofs.stale.drop_stale.Goals as goal
 
@@ -10,7 +10,9 @@ pub returns-then-home : goal.returns-then-home
 returns-then-home c = still_out c.requires c.args.z.0 c.if-home.true
 
 pub returns-then-wide32-z : goal.returns-then-wide32-z
-returns-then-wide32-z c = still_same c.requires c.if-home.false c.wide16-p.ensures (sym c.wide32.ensures ∙ c.if-wide32-z.true)
+returns-then-wide32-z c =
+    let same : get_or c.args.size.now c.wide16-p.result 0 ≡ c.args.z.0 = omega (arith, c.wide32.ensures, c.if-wide32-z.true) in
+    still_same c.requires c.if-home.false c.wide16-p.ensures same
 
 pub event-requires : goal.event-requires
 event-requires c = (omega arith, known c.requires c.if-home.false)
@@ -21,4 +23,4 @@ bounds-events-at c =
     omega (arith, room)
 
 pub returns : goal.returns
-returns c = drops c.requires c.if-home.false c.wide16-p.ensures (λ e. c.if-wide32-z.false (c.wide32.ensures ∙ e)) c.event.ensures c.drop_copy-tally.ensures
+returns c = drops c.requires c.if-home.false c.wide16-p.ensures (λ e. omega (arith, e, c.wide32.ensures, c.if-wide32-z.false)) c.event.ensures c.drop_copy-tally.ensures
