@@ -1,7 +1,6 @@
 -- `judge::entries::note_entries` meets its contract. Assumes nothing.
 use mathlib.Core.List.{[]}
 use mathlib.Core.Path.{refl}
-use Prim.Native.Nat.{◌-◌}
 use lib.ListN.{get_or}
 use Rattle.tables.specs.Tables.{Tables, tables}
 use Rattle.tables.specs.Sound.{Occupied}
