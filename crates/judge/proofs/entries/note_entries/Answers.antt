@@ -9,6 +9,7 @@ use Rattle.judge.proofs.Parts.{occupied_as}
 use Rattle.judge.proofs.Entering.{noting_twice}
 use Rattle.judge.proofs.entries.note_entries.Goals as goal
 
+-- the entry's place is occupied, so that the index has room for it
 pub returns-then-entry-p : goal.returns-then-entry-p
 returns-then-entry-p c =
     let lent : Tables = tables c.args.place.now c.args.file.now [] [] [] [] [] c.args.queue.now in

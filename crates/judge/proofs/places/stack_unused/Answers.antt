@@ -11,6 +11,7 @@ use Rattle.judge.proofs.places.stack_unused.Goals.{then-occupied+else-entry-p, e
 pub loop-p-init : goal.loop-p-init
 loop-p-init c = stacking_start _ _ _ _ c.requires
 
+-- the place is one of the settings'
 pub loop-p-preserved : goal.loop-p-preserved
 loop-p-preserved c =
     let inside : c.loop-p.p < c.args.settings.places.0 = omega (arith, c.count-places.ensures, c.loop-p-test.true) in
