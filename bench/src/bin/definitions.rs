@@ -16,29 +16,27 @@ const DEFAULT_SEED: u64 = 7;
 const REQUESTS: u64 = 40;
 
 const HEAD: &str = "\
-use mathlib.Core.Path.{_≡_, refl}
-use mathlib.Core.List.{List, [], _∷_, map}
-use Prim.Native.Nat.{ℕ}
-use Rattle·amounts.specs.Worth.{worthOf, productOf, packets, inForce}
-use Rattle·amounts.specs.Order.{lowerOf}
-use Rattle·amounts.specs.Requests.{Request}
-use Rattle·method.specs.Shelf.{Slot, none, kept, sum, lowest}
-use Rattle·method.specs.Method.{Settings, Policy, gds, gdsf, Run, State, run, step, fresh, clear, admit}
-use Rattle·method.specs.Events.{events}
-use Rattle·method.specs.Totals.{Totals, totals, zeros}
-keyOf : Slot → List ℕ
-keyOf none = []
-keyOf (kept r) = r .size ∷ r .cost ∷ r .freq ∷ r .key ∷ r .stamp ∷ []
+use Rattle.std.specs.Prelude.{◌≡◌, refl, List, [], ◌∷◌, map, ℕ}
+use Rattle.amounts.specs.Worth.{worth_of, product_of, packets, in_force}
+use Rattle.amounts.specs.Order.{lower_of}
+use Rattle.amounts.specs.Requests.{Request}
+use Rattle.method.specs.Shelf.{Slot, none, kept, sum, lowest}
+use Rattle.method.specs.Method.{Settings, Policy, gds, gdsf, Run, State, run, step, fresh, clear, admit}
+use Rattle.method.specs.Events.{events}
+use Rattle.method.specs.Totals.{Totals, totals, zeros}
+key_of : Slot → List ℕ
+key_of none = []
+key_of (kept r) = r.size ∷ r.cost ∷ r.freq ∷ r.key ∷ r.stamp ∷ []
 q : ℕ → ℕ → ℕ → Request
 q f z c = record { file = f; size = z; cost = c }
 tot : Totals → List ℕ
-tot y = y .requests ∷ y .hits ∷ y .admitted ∷ y .passed ∷ y .evicted ∷ y .dropped ∷ y .bytes ∷ y .hitBytes ∷ y .cost ∷ y .hitCost ∷ []
+tot y = y.requests ∷ y.hits ∷ y.admitted ∷ y.passed ∷ y.evicted ∷ y.dropped ∷ y.bytes ∷ y.hit_bytes ∷ y.cost ∷ y.hit_cost ∷ []
 
 ";
 
 /// The definitions that a computation looks into.
-const UNFOLDED: &str = "keyOf tot run events totals step admit clear lowest sum \
-worthOf productOf packets inForce lowerOf";
+const UNFOLDED: &str = "key_of tot run events totals step admit clear lowest sum \
+worth_of product_of packets in_force lower_of";
 
 fn main() -> ExitCode {
     let arguments: Vec<String> = std::env::args().skip(1).collect();
@@ -139,7 +137,7 @@ rs{n} = {asked} ∷ []
 x{n} : Run State
 x{n} = run (step {policy} {stated}) (fresh {stated}) rs{n}
 got{n} : List (List ℕ)
-got{n} = events rs{n} (x{n} .replies) ∷ tot (totals zeros (x{n} .replies)) ∷ (x{n} .state .inflation ∷ []) ∷ map keyOf (x{n} .state .shelf)
+got{n} = events rs{n} x{n}.replies ∷ tot (totals zeros x{n}.replies) ∷ (x{n}.state.inflation ∷ []) ∷ map key_of x{n}.state.shelf
 same{n} : got{n} ≡ ({expected} ∷ [])
 unfolding q rs{n} x{n} got{n} {UNFOLDED}
 same{n} = refl

@@ -1,8 +1,7 @@
 -- Answers that are exact: how they are given, and what a branch learns from one. Assumes nothing.
 use mathlib.Core.Path.{◌≡◌, sym, ◌∙◌}
-use mathlib.Core.Bool.{Bool, true, false, not, true≢false}
-use borrow.Author.Tests.{not-true, not-false}
-use Rattle.amounts.proofs.Tests.{told, denied}
+use mathlib.Core.Bool.{Bool, true, false, true≢false}
+use Rattle.amounts.proofs.Tests.{told}
 use Rattle.tables.specs.Exact.{Exact}
 
 pub answer_yes : {P : Type 0} → P → Exact P true
@@ -19,16 +18,16 @@ pub answer_call : {P : Type 0} {r x : Bool} → r ≡ x → (x ≡ true → P) �
 answer_call {r = r} e f g = answer_test r (λ b. f (told e b)) (λ p. e ∙ g p)
 
 -- no, where a callee's test failed that had to pass
-pub answer_denied : {P : Type 0} {r x : Bool} → r ≡ x → not r ≡ true → (P → x ≡ true) → Exact P false
-answer_denied e t g = answer_no (λ p. true≢false (sym (g p) ∙ denied e t))
+pub answer_denied : {P : Type 0} {r x : Bool} → r ≡ x → r ≡ false → (P → x ≡ true) → Exact P false
+answer_denied e t g = answer_no (λ p. true≢false (sym (g p) ∙ told e t))
 
 -- by an exact answer of something that comes to the same
 pub answer_as : {P Q : Type 0} {b : Bool} → Exact Q b → (Q → P) → (P → Q) → Exact P b
 answer_as x f g = record { yes = λ e. f (x.yes e); no = λ e p. x.no e (g p) }
 
 -- what a branch learns
-pub passed : {P : Type 0} {b : Bool} → Exact P b → not b ≡ false → P
-passed {b = b} x e = x.yes (not-false b e)
+pub passed : {P : Type 0} {b : Bool} → Exact P b → b ≡ true → P
+passed x e = x.yes e
 
-pub failed : {P : Type 0} {b : Bool} → Exact P b → not b ≡ true → P → ⊥
-failed {b = b} x e = x.no (not-true b e)
+pub failed : {P : Type 0} {b : Bool} → Exact P b → b ≡ false → P → ⊥
+failed x e = x.no e

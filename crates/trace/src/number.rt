@@ -18,6 +18,7 @@ pub enum Next {
 }
 
 // One group more.
+#[tactic(auto, unfolding(crate::specs::Steps::taken))]
 pub(crate) fn take_group(g: Group, b: u8) -> Next
     requires { Fine g }
     ensures { result ≡ taken g b }

@@ -12,7 +12,7 @@ use Rattle.amounts.specs.Worth.{worth_most}
 use Rattle.amounts.specs.declared.settings.Settings.{Settings}
 use Rattle.large.specs.Large.{value_of, Is}
 use Rattle.large.specs.declared.Large.{Large}
-use Rattle.method.specs.Shelf.{Kept, Shelf, sum, bytes, files, product}
+use Rattle.method.specs.Shelf.{Kept, Shelf, sum, product}
 use Rattle.method.specs.Method.{Policy, policy_of}
 use Rattle.method.specs.Promise.{Once, Fine}
 use Rattle.tables.specs.Tables.{Tables, record_at}

@@ -1,0 +1,19 @@
+-- `admitting::admission::enter` meets its contract. Assumes nothing.
+use Prim.Native.Nat.{◌-◌}
+use Rattle.shelving.proofs.Dropping.{live_droppable}
+use Rattle.admitting.proofs.Entering.{keepable, entered}
+use Rattle.admitting.proofs.admission.enter.Goals as goal
+
+pub drop_behind-requires : goal.drop_behind-requires
+drop_behind-requires c = let h = c.requires in live_droppable h.live _ h.stack.long
+
+pub keep-requires : goal.keep-requires
+keep-requires c =
+    let h = c.requires in
+    keepable h c.drop_behind.ensures c.count.ensures c.wide16-p.ensures c.newcomer-k.ensures
+
+pub returns : goal.returns
+returns c =
+    let h = c.requires in
+    entered h c.drop_behind.ensures c.count.ensures c.wide16-p.ensures c.newcomer-k.ensures _
+    c.keep.ensures c.tell.ensures c.admitted.ensures

@@ -1,0 +1,19 @@
+-- `dropping::copy::drop_copy` meets its contract. Assumes nothing.
+use native.Mathlib.Omega.{arith}
+use Rattle.dropping.proofs.Droppings.{some, holding, among, droppable, gone}
+use Rattle.dropping.proofs.copy.drop_copy.Goals as goal
+
+pub overflow_sub-last : goal.overflow_sub-last
+overflow_sub-last c = omega (arith, some c.requires)
+
+pub remove-requires : goal.remove-requires
+remove-requires c = holding c.requires c.wide16-at.ensures
+
+pub drop_behind-requires : goal.drop_behind-requires
+drop_behind-requires c = droppable c.requires c.wide16-at.ensures c.remove.ensures
+
+pub without-requires : goal.without-requires
+without-requires c = among c.requires c.wide32.ensures
+
+pub returns : goal.returns
+returns c = gone c.requires c.wide16-at.ensures c.remove.ensures c.drop_behind.ensures c.wide32.ensures c.without.ensures

@@ -1,0 +1,11 @@
+-- `hitting::renewal::hit` meets its contract. Assumes nothing.
+use native.Mathlib.Omega.{arith}
+use Rattle.amounts.specs.Limits.{size_most}
+use Rattle.amounts.proofs.Tests.{in_one_to}
+use Rattle.method.specs.Method as method
+use Rattle.hitting.proofs.renewal.hit.Goals as goal
+
+pub size-z-requires : goal.size-z-requires
+size-z-requires c =
+    let v = c.requires.valued in
+    in_one_to size_most _ (omega (arith, c.wide32.ensures, v.size_least)) (omega (arith, c.wide32.ensures, v.size_at_most))
