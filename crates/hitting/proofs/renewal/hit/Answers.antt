@@ -2,7 +2,6 @@
 use native.Mathlib.Omega.{arith}
 use Rattle.amounts.specs.Limits.{size_most}
 use Rattle.amounts.proofs.Tests.{in_one_to}
-use Rattle.method.specs.Method as method
 use Rattle.hitting.proofs.renewal.hit.Goals as goal
 
 -- the size is that of the file at the place

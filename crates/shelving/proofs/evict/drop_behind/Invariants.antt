@@ -1,5 +1,4 @@
 -- `shelving::evict::drop_behind` meets its contract. Assumes nothing.
-use Prim.Native.Nat.{◌-◌}
 use Rattle.tables.specs.Tables.{tables}
 use Rattle.shelving.proofs.Dropping.{Falling}
 use Rattle.shelving.proofs.evict.drop_behind.Given as goal

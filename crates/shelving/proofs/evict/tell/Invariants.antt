@@ -1,5 +1,4 @@
 -- `shelving::evict::tell` meets its contract. Assumes nothing.
-use Prim.Native.Nat.{◌-◌}
 use Rattle.shelving.proofs.Tellings.{Telling}
 use Rattle.shelving.proofs.evict.tell.Given as goal
 
