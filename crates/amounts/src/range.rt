@@ -3,6 +3,7 @@ ghost use Rattle.std.specs.Prelude.{◌≡◌, ◌≤◌};
 ghost use Rattle.amounts.specs.Limits.{one_to, total_of, requests_most, size_most};
 
 // Whether n is at least 1 and at most the limit.
+#[tactic(auto, unfolding(crate::specs::Limits::one_to))]
 pub(crate) fn one_to(most: u64, n: u64) -> bool
     ensures { result ≡ one_to most n }
 {
@@ -13,6 +14,7 @@ pub(crate) fn one_to(most: u64, n: u64) -> bool
 }
 
 // Whether so many files, each at least 1 and at most the limit, can come to a total.
+#[tactic(auto, unfolding(crate::specs::Limits::total_of))]
 pub(crate) fn total_of(most: u64, files: u64, total: u64) -> bool
     requires most_le_size_most { most ≤ size_most }
     requires files_le_requests_most { files ≤ requests_most }

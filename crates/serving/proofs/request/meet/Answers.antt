@@ -1,4 +1,6 @@
 -- `serving::request::meet` meets its contract. Assumes nothing.
+use mathlib.Core.Path.{ap}
+use mathlib.Core.Bool.{not}
 use Rattle.serving.proofs.Cases.{hittable_at, strikes_at, bigs, admitted}
 use Rattle.serving.proofs.request.meet.Goals as goal
 
@@ -9,7 +11,7 @@ pub returns-then-home : goal.returns-then-home
 returns-then-home c = strikes_at c.requires c.if-home.true c.wide16.ensures c.hit.ensures
 
 pub returns-then-not-at_most : goal.returns-then-not-at_most
-returns-then-not-at_most c = bigs c.requires c.if-home.false c.at_most.ensures c.if-not-at_most.true c.with_pass.ensures
+returns-then-not-at_most c = bigs c.requires c.if-home.false c.at_most.ensures (ap not c.if-not-at_most.true) c.with_pass.ensures
 
 pub returns : goal.returns
-returns c = admitted c.requires c.if-home.false c.at_most.ensures c.if-not-at_most.false c.admit.ensures
+returns c = admitted c.requires c.if-home.false c.at_most.ensures (ap not c.if-not-at_most.false) c.admit.ensures

@@ -1,5 +1,5 @@
 -- `serving::request::serve` meets its contract. Assumes nothing.
-use Prim.Native.Nat.{ℕ, ◌+◌, ◌*◌, ◌<◌, ◌≤◌}
+use Prim.Native.Nat.{ℕ, ◌+◌, ◌≤◌}
 use mathlib.Core.Path.{ap, ◌∙◌}
 use native.Mathlib.Omega.{arith}
 use lib.ListN.{length}
@@ -17,24 +17,22 @@ pub drop_stale-cleaned-requires : goal.drop_stale-cleaned-requires
 drop_stale-cleaned-requires c = cleanable (servable c.requires c.lift-lifted.ensures)
 
 pub meet-met-requires : goal.meet-met-requires
-meet-met-requires c = meetable _ c.drop_stale-cleaned.ensures c.in_force.ensures (servable c.requires c.lift-lifted.ensures) c.events-1.given
+meet-met-requires c = meetable _ c.drop_stale-cleaned.ensures c.in_force.ensures (servable c.requires c.lift-lifted.ensures) (omega arith)
 
 pub offset_bounds-events-due : goal.offset_bounds-events-due
 offset_bounds-events-due c =
     let room : c.meet-met.result.due + 1 ≤ length c.args.events.now = own_room (servable c.requires c.lift-lifted.ensures) c.drop_stale-cleaned.ensures c.in_force.ensures c.meet-met.ensures in
-    let space : length c.args.events.now * 4 < 9223372036854775808 = c.well_formed.1.1.1.1.1.1.1.1.1.1.1.1.1.1.0.1 in
-    omega (arith, room, space)
+    omega (arith, room)
 
 pub bounds-events-due : goal.bounds-events-due
 bounds-events-due c =
     let room : c.meet-met.result.due + 1 ≤ length c.args.events.now = own_room (servable c.requires c.lift-lifted.ensures) c.drop_stale-cleaned.ensures c.in_force.ensures c.meet-met.ensures in
-    omega (arith, room, c.events-2-1.given, c.events-1.given)
+    omega (arith, room)
 
 pub overflow_add-next : goal.overflow_add-next
 overflow_add-next c =
     let room : c.meet-met.result.due + 1 ≤ length c.args.events.now = own_room (servable c.requires c.lift-lifted.ensures) c.drop_stale-cleaned.ensures c.in_force.ensures c.meet-met.ensures in
-    let space : length c.args.events.now * 4 < 9223372036854775808 = c.well_formed.1.1.1.1.1.1.1.1.1.1.1.1.1.1.0.1 in
-    omega (arith, room, space)
+    omega (arith, room)
 
 pub returns : goal.returns
 returns c =

@@ -11,6 +11,7 @@ use Rattle.weighing.proofs.files.is_right.Goals as goal
 pub returns-then-not-is_size : goal.returns-then-not-is_size
 returns-then-not-is_size c = answer_denied c.is_size.ensures c.if-not-is_size.true (λ w. in_one_to size_most _ w.fine.valued.size_least w.fine.valued.size_at_most)
 
+-- size and cost were found in range
 pub kept_product-most-requires : goal.kept_product-most-requires
 kept_product-most-requires c =
     let size = one_to_lem size_most _ (told c.is_size.ensures c.if-not-is_size.false) in

@@ -11,6 +11,7 @@ use Rattle.weighing.proofs.sums.add_products.Goals.{then-p, else-p}
 pub loop-f-init : goal.loop-f-init
 loop-f-init c = (omega arith, run_nobody _ _ c.requires.normal)
 
+-- the file is one of the catalogue, and its place one of the tables', with a size and a cost in force
 pub plus-sum-requires : goal.plus-sum-requires
 plus-sum-requires c =
     let inside : c.loop-f.f < c.args.catalogue.0 = omega (arith, c.count-n.ensures, c.loop-f-test.true) in

@@ -12,6 +12,7 @@ use Rattle.weighing.proofs.sums.sum_kept.Goals.{then-p, else-p}
 pub loop-f-init : goal.loop-f-init
 loop-f-init c = (omega arith, to_nobody _ _ _, to_nobody _ _ _, to_nobody _ _ _)
 
+-- the file is one of the catalogue, and its place one of the tables'
 pub loop-f-preserved : goal.loop-f-preserved
 loop-f-preserved c =
     let inside : c.loop-f.f < c.args.catalogue.0 = omega (arith, c.count-n.ensures, c.loop-f-test.true) in
