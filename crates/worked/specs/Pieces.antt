@@ -1,15 +1,14 @@
 -- The bench pieces of document 01 that are marked P, and the product of document 02, ticket 6, as a single statement over one list. Assumes nothing.
-use Rattle.std.specs.Prelude.{◌≡◌, refl, List, [], ◌∷◌, ◌++◌, map, ℕ, length, replicate}
-use Rattle.amounts.specs.Limits.{frequency_most, one_to}
-use Rattle.amounts.specs.Worth.{worth_of, product_of, packets, in_force}
-use Rattle.amounts.specs.Order.{lower_of}
+use Rattle.std.specs.Prelude.{List, [], ◌∷◌, ◌++◌, map, ℕ, length, replicate}
+use Rattle.amounts.specs.Limits.{frequency_most}
+use Rattle.amounts.specs.Worth.{worth_of, product_of, in_force}
 use Rattle.amounts.specs.Requests.{Request}
 use Rattle.card.specs.Card.{Card}
-use Rattle.method.specs.Shelf.{Slot, none, kept, sum, bytes, files, lowest}
-use Rattle.method.specs.Method.{Policy, gdsf, policy_of, Settings, Gone, Reply, State, Run, run, fresh, step, clear, admit}
+use Rattle.method.specs.Shelf.{Slot, none, kept, bytes, files}
+use Rattle.method.specs.Method.{Policy, gdsf, policy_of, Settings, Gone, Reply, State, Run, run, fresh, step}
 use Rattle.method.specs.Events.{events}
 use Rattle.method.specs.Totals.{Totals, totals, zeros}
-use Rattle.trace.specs.Reading.{Opened, opened, shut, read_of, settings_of, file_read, rows}
+use Rattle.trace.specs.Reading.{Opened, opened, shut, settings_of, file_read, rows}
 use Rattle.trace.specs.Cards.{file_answer}
 
 -- document 01, "The sheet": the hex bytes of the example

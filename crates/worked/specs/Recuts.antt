@@ -1,10 +1,8 @@
 -- Worked recuts: requests for a kept file in another size (document 02, ticket 2), as a single statement over one list. Assumes nothing.
-use Rattle.std.specs.Prelude.{◌≡◌, refl, List, [], ◌∷◌, ◌++◌, map, ℕ}
-use Rattle.amounts.specs.Worth.{worth_of, product_of, packets, in_force}
-use Rattle.amounts.specs.Order.{lower_of}
+use Rattle.std.specs.Prelude.{List, [], ◌∷◌, ◌++◌, map, ℕ}
 use Rattle.amounts.specs.Requests.{Request}
-use Rattle.method.specs.Shelf.{Slot, none, kept, sum, lowest}
-use Rattle.method.specs.Method.{Policy, gds, gdsf, Settings, Reply, State, Run, run, fresh, step, clear, admit}
+use Rattle.method.specs.Shelf.{Slot, none, kept}
+use Rattle.method.specs.Method.{Policy, gds, gdsf, Settings, Reply, State, Run, run, fresh, step}
 use Rattle.method.specs.Events.{events}
 use Rattle.method.specs.Totals.{totals, zeros}
 use Rattle.worked.specs.Pieces.{totals_of}

@@ -4,9 +4,15 @@ use mathlib.Core.Path.{◌≡◌, ap, ◌∙◌}
 use native.Mathlib.Omega.{arith}
 use Rattle.amounts.specs.Worth.{product_of}
 use Rattle.tables.specs.Tally.{policy_in}
+use Rattle.tables.specs.declared.tally.Tally.{Tally}
 use Rattle.newcomer.specs.Newcomer.{limit_of}
 use Rattle.admitting.proofs.Admitting.{key_fits, roomless, apiece, lows, enterable, admitted}
 use Rattle.admitting.proofs.admission.admit.Goals as goal
+
+-- the limit is the method's
+limit_is : (a : Tally) (size cost : ℕ) {limit key worth : ℕ} → limit ≡ limit_of (policy_in a.settings) key → key ≡ a.inflation.0 + worth → worth ≡ product_of 1 size cost
+    → limit ≡ limit_of (policy_in a.settings) (a.inflation.0 + product_of 1 size cost)
+limit_is a size cost is keyed valued = is ∙ ap (limit_of (policy_in a.settings)) (keyed ∙ ap (λ (v : ℕ). a.inflation.0 + v) valued)
 
 pub plus-k-requires : goal.plus-k-requires
 plus-k-requires c = omega (arith, c.product.ensures, key_fits c.requires)
@@ -16,28 +22,20 @@ make_room-room-requires c = roomless c.requires
 
 pub put_back-requires : goal.put_back-requires
 put_back-requires c =
-    let most : let x = c.args in c.limit-most.result.0 ≡ limit_of (policy_in x.a.settings) (x.a.inflation.0 + product_of 1 x.z.0 x.w.0) = let x = c.args in
-    let keyed = c.plus-k.ensures ∙ ap (λ (v : ℕ). x.a.inflation.0 + v) c.product.ensures in
-    c.limit-most.ensures ∙ ap (limit_of (policy_in x.a.settings)) keyed in
+    let most = limit_is c.args.a c.args.z.0 c.args.w.0 c.limit-most.ensures c.plus-k.ensures c.product.ensures in
     apiece c.requires most c.make_room-room.ensures c.if-room.true
 
 pub returns-then-room : goal.returns-then-room
 returns-then-room c =
-    let most : let x = c.args in c.limit-most.result.0 ≡ limit_of (policy_in x.a.settings) (x.a.inflation.0 + product_of 1 x.z.0 x.w.0) = let x = c.args in
-    let keyed = c.plus-k.ensures ∙ ap (λ (v : ℕ). x.a.inflation.0 + v) c.product.ensures in
-    c.limit-most.ensures ∙ ap (limit_of (policy_in x.a.settings)) keyed in
+    let most = limit_is c.args.a c.args.z.0 c.args.w.0 c.limit-most.ensures c.plus-k.ensures c.product.ensures in
     lows c.requires most c.make_room-room.ensures c.if-room.true c.put_back.ensures c.with_pass.ensures
 
 pub enter-requires : goal.enter-requires
 enter-requires c =
-    let most : let x = c.args in c.limit-most.result.0 ≡ limit_of (policy_in x.a.settings) (x.a.inflation.0 + product_of 1 x.z.0 x.w.0) = let x = c.args in
-    let keyed = c.plus-k.ensures ∙ ap (λ (v : ℕ). x.a.inflation.0 + v) c.product.ensures in
-    c.limit-most.ensures ∙ ap (limit_of (policy_in x.a.settings)) keyed in
+    let most = limit_is c.args.a c.args.z.0 c.args.w.0 c.limit-most.ensures c.plus-k.ensures c.product.ensures in
     enterable c.requires most c.make_room-room.ensures c.if-room.false
 
 pub returns : goal.returns
 returns c =
-    let most : let x = c.args in c.limit-most.result.0 ≡ limit_of (policy_in x.a.settings) (x.a.inflation.0 + product_of 1 x.z.0 x.w.0) = let x = c.args in
-    let keyed = c.plus-k.ensures ∙ ap (λ (v : ℕ). x.a.inflation.0 + v) c.product.ensures in
-    c.limit-most.ensures ∙ ap (limit_of (policy_in x.a.settings)) keyed in
+    let most = limit_is c.args.a c.args.z.0 c.args.w.0 c.limit-most.ensures c.plus-k.ensures c.product.ensures in
     admitted c.requires most c.make_room-room.ensures c.if-room.false c.enter.ensures

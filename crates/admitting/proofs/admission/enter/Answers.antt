@@ -1,5 +1,4 @@
 -- `admitting::admission::enter` meets its contract. Assumes nothing.
-use Prim.Native.Nat.{◌-◌}
 use Rattle.shelving.proofs.Dropping.{live_droppable}
 use Rattle.admitting.proofs.Entering.{keepable, entered}
 use Rattle.admitting.proofs.admission.enter.Goals as goal

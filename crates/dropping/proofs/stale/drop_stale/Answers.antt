@@ -1,8 +1,7 @@
 -- `dropping::stale::drop_stale` meets its contract. Assumes nothing.
-use Prim.Native.Nat.{◌+◌, ◌≤◌}
-use mathlib.Core.Path.{sym, ◌∙◌}
+use mathlib.Core.Path.{◌≡◌}
 use native.Mathlib.Omega.{arith}
-use lib.ListN.{length}
+use lib.ListN.{get_or}
 use Rattle.dropping.proofs.Cleanings.{still_out, still_same, space, known, drops}
 use Rattle.dropping.proofs.stale.drop_stale.Goals as goal
 
@@ -10,15 +9,16 @@ pub returns-then-home : goal.returns-then-home
 returns-then-home c = still_out c.requires c.args.z.0 c.if-home.true
 
 pub returns-then-wide32-z : goal.returns-then-wide32-z
-returns-then-wide32-z c = still_same c.requires c.if-home.false c.wide16-p.ensures (sym c.wide32.ensures ∙ c.if-wide32-z.true)
+returns-then-wide32-z c =
+    let same : get_or c.args.size.now c.wide16-p.result 0 ≡ c.args.z.0 = omega (arith, c.wide32.ensures, c.if-wide32-z.true) in
+    still_same c.requires c.if-home.false c.wide16-p.ensures same
 
 pub event-requires : goal.event-requires
 event-requires c = (omega arith, known c.requires c.if-home.false)
 
+-- there is room in the event list for the event
 pub bounds-events-at : goal.bounds-events-at
-bounds-events-at c =
-    let room : c.args.at + 1 ≤ length c.args.events.now = space c.requires c.if-home.false in
-    omega (arith, room)
+bounds-events-at c = omega (arith, space c.requires c.if-home.false)
 
 pub returns : goal.returns
-returns c = drops c.requires c.if-home.false c.wide16-p.ensures (λ e. c.if-wide32-z.false (c.wide32.ensures ∙ e)) c.event.ensures c.drop_copy-tally.ensures
+returns c = drops c.requires c.if-home.false c.wide16-p.ensures (λ e. omega (arith, e, c.wide32.ensures, c.if-wide32-z.false)) c.event.ensures c.drop_copy-tally.ensures

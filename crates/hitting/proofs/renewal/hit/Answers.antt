@@ -5,6 +5,7 @@ use Rattle.amounts.proofs.Tests.{in_one_to}
 use Rattle.method.specs.Method as method
 use Rattle.hitting.proofs.renewal.hit.Goals as goal
 
+-- the size is that of the file at the place
 pub size-z-requires : goal.size-z-requires
 size-z-requires c =
     let v = c.requires.valued in

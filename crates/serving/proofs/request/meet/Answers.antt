@@ -1,6 +1,7 @@
 -- `serving::request::meet` meets its contract. Assumes nothing.
-use mathlib.Core.Path.{ap}
-use mathlib.Core.Bool.{not}
+use mathlib.Core.Path.{◌≡◌, ap}
+use mathlib.Core.Bool.{true, not}
+use borrow.Author.Rules.{rules}
 use Rattle.serving.proofs.Cases.{hittable_at, strikes_at, bigs, admitted}
 use Rattle.serving.proofs.request.meet.Goals as goal
 
@@ -14,4 +15,6 @@ pub returns-then-not-at_most : goal.returns-then-not-at_most
 returns-then-not-at_most c = bigs c.requires c.if-home.false c.at_most.ensures (ap not c.if-not-at_most.true) c.with_pass.ensures
 
 pub returns : goal.returns
-returns c = admitted c.requires c.if-home.false c.at_most.ensures (ap not c.if-not-at_most.false) c.admit.ensures
+returns c =
+    let fits : c.at_most.result ≡ true = search rules in
+    admitted c.requires c.if-home.false c.at_most.ensures (ap not fits) c.admit.ensures

@@ -1,8 +1,7 @@
 -- `serving::request::serve` meets its contract. Assumes nothing.
-use Prim.Native.Nat.{ℕ, ◌+◌, ◌≤◌}
+use Prim.Native.Nat.{ℕ}
 use mathlib.Core.Path.{ap, ◌∙◌}
 use native.Mathlib.Omega.{arith}
-use lib.ListN.{length}
 use Rattle.method.specs.Events.{event}
 use Rattle.lifting.proofs.Raising.{raisable}
 use Rattle.serving.proofs.Cleanings.{meetable}
@@ -19,20 +18,15 @@ drop_stale-cleaned-requires c = cleanable (servable c.requires c.lift-lifted.ens
 pub meet-met-requires : goal.meet-met-requires
 meet-met-requires c = meetable _ c.drop_stale-cleaned.ensures c.in_force.ensures (servable c.requires c.lift-lifted.ensures) (omega arith)
 
+-- there is room in the event list for the request's own entry
 pub offset_bounds-events-due : goal.offset_bounds-events-due
-offset_bounds-events-due c =
-    let room : c.meet-met.result.due + 1 ≤ length c.args.events.now = own_room (servable c.requires c.lift-lifted.ensures) c.drop_stale-cleaned.ensures c.in_force.ensures c.meet-met.ensures in
-    omega (arith, room)
+offset_bounds-events-due c = omega (arith, own_room (servable c.requires c.lift-lifted.ensures) c.drop_stale-cleaned.ensures c.in_force.ensures c.meet-met.ensures)
 
 pub bounds-events-due : goal.bounds-events-due
-bounds-events-due c =
-    let room : c.meet-met.result.due + 1 ≤ length c.args.events.now = own_room (servable c.requires c.lift-lifted.ensures) c.drop_stale-cleaned.ensures c.in_force.ensures c.meet-met.ensures in
-    omega (arith, room)
+bounds-events-due c = omega (arith, own_room (servable c.requires c.lift-lifted.ensures) c.drop_stale-cleaned.ensures c.in_force.ensures c.meet-met.ensures)
 
 pub overflow_add-next : goal.overflow_add-next
-overflow_add-next c =
-    let room : c.meet-met.result.due + 1 ≤ length c.args.events.now = own_room (servable c.requires c.lift-lifted.ensures) c.drop_stale-cleaned.ensures c.in_force.ensures c.meet-met.ensures in
-    omega (arith, room)
+overflow_add-next c = omega (arith, own_room (servable c.requires c.lift-lifted.ensures) c.drop_stale-cleaned.ensures c.in_force.ensures c.meet-met.ensures)
 
 pub returns : goal.returns
 returns c =

@@ -7,6 +7,7 @@ use Rattle.shelving.specs.Evicting.{with_queue, clear_at}
 use Rattle.shelving.proofs.Dropping.{falling_more, falling_end}
 use Rattle.shelving.proofs.evict.drop_behind.Goals as goal
 
+-- the file is the last entry's
 pub loop-i-preserved : goal.loop-i-preserved
 loop-i-preserved c =
     let is_file : let l = c.loop-i in c.wide16-f.result ≡ get_or l.file (get_or l.queue (l.i - 1) 0) 0 = c.wide16-f.ensures ∙ ap (λ (k : ℕ). get_or c.loop-i.file k 0) c.wide16-p.ensures in

@@ -6,6 +6,7 @@ use Rattle.method.specs.Events.{event}
 use Rattle.shelving.proofs.Tellings.{telling_more, telling_end}
 use Rattle.shelving.proofs.evict.tell.Goals as goal
 
+-- the file is the last entry's
 pub loop-i-preserved : goal.loop-i-preserved
 loop-i-preserved c =
     let is_last : let x = c.args in c.wide16.result ≡ get_or x.file.now (get_or x.queue.now (c.loop-i.i - 1) 0) 0 = c.wide16.ensures ∙ ap (λ (k : ℕ). get_or c.args.file.now k 0) c.wide16-p.ensures in

@@ -1,5 +1,4 @@
 -- `tables::fill::fill32` meets its contract: after i turns the first i entries are v. Assumes nothing.
-use Prim.Native.Nat.{◌-◌}
 use Rattle.tables.proofs.Lists.{filled_none, filled_more}
 use Rattle.tables.proofs.fill.fill32.Goals as goal
 

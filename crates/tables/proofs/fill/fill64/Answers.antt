@@ -1,5 +1,4 @@
 -- `tables::fill::fill64` meets its contract: after i turns the first i entries are v. Assumes nothing.
-use Prim.Native.Nat.{◌-◌}
 use Rattle.tables.proofs.Lists.{filled_none, filled_more}
 use Rattle.tables.proofs.fill.fill64.Goals as goal
 
