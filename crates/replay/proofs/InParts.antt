@@ -12,7 +12,7 @@ use Rattle.amounts.specs.Requests.{Request}
 use Rattle.amounts.specs.declared.settings.Settings.{Settings}
 use Rattle.card.specs.Card.{Card, value_of}
 use Rattle.card.proofs.Cases.{refusal_not_done}
-use Rattle.method.specs.Shelf.{bytes, files}
+use Rattle.method.specs.Shelf.{bytes}
 use Rattle.method.specs.Method.{State, Served, Run, run, step}
 use Rattle.method.specs.Totals.{totals}
 use Rattle.method.specs.Events.{events}

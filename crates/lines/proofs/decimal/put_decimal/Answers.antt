@@ -1,4 +1,4 @@
--- `lines::decimal::put_decimal` meets its contract: at the loop's head the digits of what is left make of the list what all of them make of the list at entry. Assumes nothing.
+-- `lines::decimal::put_decimal` meets its contract. Assumes nothing.
 use native.Mathlib.Omega.{arith}
 use Rattle.lines.proofs.Digits.{storing_first, storing_on, storing_more, storing_end, some_decimal}
 use Rattle.lines.proofs.decimal.put_decimal.Goals as goal

@@ -1,5 +1,4 @@
--- `lines::page::put_events` meets its contract: at the loop's head the lines that are left make of the list what all of them make of the list at entry. Assumes nothing.
-use Prim.Native.Nat.{◌-◌}
+-- `lines::page::put_events` meets its contract. Assumes nothing.
 use Rattle.lines.proofs.Listing.{list_more}
 use Rattle.lines.proofs.page.put_events.Goals as goal
 
