@@ -11,11 +11,9 @@ fn lift_keys(n: usize, queue: &[u16], keys: &mut [u64])
     requires { Liftable queue.now keys.old n }
     ensures { Lifted queue.now keys.old keys.new n }
 {
-    let mut i = 0;
-    while i < n {
-        let p = queue[i] as usize;
-        keys[p] = keys[p] - Key::LIFT;
-        i += 1;
+    for place in &queue[..n] {
+        let p = *place as usize;
+        keys[p] -= Key::LIFT;
     }
 }
 
