@@ -6,7 +6,6 @@ ghost use Rattle.tables.specs.Exact.{Exact};
 ghost use Rattle.judge.specs.Passes.{Indexable, Unnoted, Noted};
 
 use amounts::{Places, Settings};
-use tables::fill16;
 
 // Whether a place and its file point at each other.
 pub(crate) fn occupied(settings: Settings, place: &[u16], file: &[u16], p: usize) -> bool
@@ -38,9 +37,8 @@ fn note_entries(
     requires unnoted { Unnoted settings entry.old }
     ensures { Noted settings n (tables place.now file.now [] [] [] [] [] queue.now) entry.old entry.new result }
 {
-    let mut i = 0;
-    while i < n {
-        let p = queue[i] as usize;
+    for (i, held) in queue[..n].iter().enumerate() {
+        let p = *held as usize;
         if !occupied(settings, place, file, p) {
             return false;
         }
@@ -48,7 +46,6 @@ fn note_entries(
             return false;
         }
         entry[p] = i as u16;
-        i += 1;
     }
     true
 }
@@ -65,7 +62,7 @@ pub(crate) fn index_entries(
     requires { Indexable settings n (tables place.now file.now [] [] [] [] [] queue.now) entry.old }
     ensures { Noted settings n (tables place.now file.now [] [] [] [] [] queue.now) entry.old entry.new result }
 {
-    fill16(entry, settings.places.count(), Places::NONE);
+    entry[..settings.places.count()].fill(Places::NONE);
     note_entries(settings, n, place, file, queue, entry)
 }
 
@@ -75,12 +72,5 @@ pub(crate) fn rest_zero(settings: Settings, n: usize, queue: &[u16]) -> bool
     ensures { Exact (Rest settings n (tables [] [] [] [] [] [] [] queue.now)) result }
 {
     let places = settings.places.count();
-    let mut i = n;
-    while i < places {
-        if queue[i] != 0 {
-            return false;
-        }
-        i += 1;
-    }
-    true
+    queue[..places].iter().skip(n).all(|held| *held == 0)
 }

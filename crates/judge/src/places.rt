@@ -59,8 +59,7 @@ pub(crate) fn stack_unused(
 {
     let places = settings.places.count();
     let mut top = 0;
-    let mut p = 0;
-    while p < places {
+    for p in 0..places {
         if occupied(settings, place, file, p) {
             if entry[p] == Places::NONE {
                 return false;
@@ -72,7 +71,6 @@ pub(crate) fn stack_unused(
             free[top] = p as u16;
             top += 1;
         }
-        p += 1;
     }
     true
 }

@@ -5,13 +5,6 @@ ghost use Rattle.queue.specs.Moves.{Legible, Slot, Placed};
 
 use amounts::{Key, lower};
 
-// A place as an index into the lent tables.
-pub(crate) fn wide(place: u16) -> usize
-    ensures { result ≡ place }
-{
-    place as usize
-}
-
 // Whether the file at place a is lower than that at place b.
 pub(crate) fn lower_place(keys: &[u64], stamps: &[u64], a: usize, b: usize) -> bool
     requires a_in_bounds { (a < length keys.now) × (b < length keys.now) }
@@ -31,8 +24,8 @@ pub(crate) fn lower_entry(queue: &[u16], keys: &[u64], stamps: &[u64], i: usize,
     requires legible_2 { Legible queue.now keys.now stamps.now j }
     ensures { result ≡ lower_at keys.now stamps.now (get_or queue.now i 0) (get_or queue.now j 0) }
 {
-    let a = wide(queue[i]);
-    let b = wide(queue[j]);
+    let a = usize::from(queue[i]);
+    let b = usize::from(queue[j]);
     lower_place(keys, stamps, a, b)
 }
 
@@ -41,7 +34,7 @@ pub(crate) fn put(queue: &mut [u16], entry: &mut [u16], i: usize, place: u16)
     requires { Slot queue.old entry.old i place }
     ensures { Placed queue.old queue.new entry.old entry.new i place }
 {
-    let p = wide(place);
+    let p = usize::from(place);
     queue[i] = place;
     entry[p] = i as u16;
 }

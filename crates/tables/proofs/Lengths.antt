@@ -29,7 +29,7 @@ and_right false b e = let z : ◌≡◌ {A = ℕ} 0 1 = cc in absurd (let h : �
 both : (x y : ℕ) (z : Bool) → leb x y && z ≡ true → (x ≤ y) × (z ≡ true)
 both x y z e = (leb-true x y (and_left (leb x y) z e), and_right (leb x y) z e)
 
--- tables that pass the test are long enough, and where one is not the test fails
+-- tables that pass the test are long enough
 module _ (p n a b c d e f g h : ℕ) where
   abbrev Nums : Type 0
   Nums = (n ≤ a) × (p ≤ b) × (p ≤ c) × (p ≤ d) × (p ≤ e) × (p ≤ f) × (p ≤ g) × (p ≤ h)
@@ -42,13 +42,6 @@ module _ (p n a b c d e f g h : ℕ) where
       let q5 = both p e _ q4.1 in let q6 = both p f _ q5.1 in
       let q7 = both p g _ q6.1 in
       (q1.0, q2.0, q3.0, q4.0, q5.0, q6.0, q7.0, leb-true p h q7.1)
-
-  pub short : (Nums → ⊥) → false ≡ long_enough p n a b c d e f g h
-  short no-good = go (long_enough p n a b c d e f g h) refl
-    where
-      go : (t : Bool) → long_enough p n a b c d e f g h ≡ t → false ≡ t
-      go true q = absurd (no-good (long_nums q))
-      go false q = refl
 
 pub long_of : (p n : ℕ) (t : Tables) → is_long p n t ≡ true → Long p n t
 long_of p n t e =

@@ -3,6 +3,7 @@ ghost use Rattle.std.specs.Prelude.{◌≡◌};
 ghost use Rattle.tables.specs.Tables.{long_enough};
 
 // Whether each table has its needed length: the catalogue for the table by file number, the places for every other.
+#[tactic(auto, unfolding(crate::specs::Tables::long_enough))]
 pub fn long_enough(
     places: usize,
     catalogue: usize,
@@ -17,26 +18,12 @@ pub fn long_enough(
 ) -> bool
     ensures { result ≡ long_enough places catalogue place file size cost freq key stamp queue }
 {
-    if place < catalogue {
-        return false;
-    }
-    if file < places {
-        return false;
-    }
-    if size < places {
-        return false;
-    }
-    if cost < places {
-        return false;
-    }
-    if freq < places {
-        return false;
-    }
-    if key < places {
-        return false;
-    }
-    if stamp < places {
-        return false;
-    }
-    places <= queue
+    catalogue <= place
+        && places <= file
+        && places <= size
+        && places <= cost
+        && places <= freq
+        && places <= key
+        && places <= stamp
+        && places <= queue
 }

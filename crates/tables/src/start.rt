@@ -3,7 +3,6 @@ ghost use Rattle.std.specs.Prelude.{◌≡◌};
 ghost use Rattle.tables.specs.Tables.{tables, Long, cleared};
 ghost use Rattle.tables.specs.Start.{Freshly};
 
-use crate::fill::{fill16, fill32, fill64};
 use crate::length::long_enough;
 use crate::tally::Tally;
 use amounts::{Places, Settings};
@@ -31,14 +30,14 @@ fn clear_all(
     requires { Long places catalogue (tables place.old file.old size.old cost.old freq.old key.old stamp.old queue.old) }
     ensures { tables place.new file.new size.new cost.new freq.new key.new stamp.new queue.new ≡ cleared places catalogue (tables place.old file.old size.old cost.old freq.old key.old stamp.old queue.old) }
 {
-    fill16(place, catalogue, Places::NONE);
-    fill16(file, places, 0);
-    fill32(size, places, 0);
-    fill16(cost, places, 0);
-    fill32(freq, places, 0);
-    fill64(key, places, 0);
-    fill64(stamp, places, 0);
-    fill16(queue, places, 0);
+    place[..catalogue].fill(Places::NONE);
+    file[..places].fill(0);
+    size[..places].fill(0);
+    cost[..places].fill(0);
+    freq[..places].fill(0);
+    key[..places].fill(0);
+    stamp[..places].fill(0);
+    queue[..places].fill(0);
 }
 
 // A fresh start: refused for a setting out of range or a table too short, and then nothing is written.

@@ -114,14 +114,9 @@ pub(crate) fn all_lawful(
     ensures { Exact (AllLawful settings inflation.0 requests (tables place.now file.now size.now cost.now freq.now key.now stamp.now [])) result }
 {
     let catalogue = settings.catalogue.count();
-    let mut f = 0;
-    while f < catalogue {
-        if !is_lawful(
+    (0..catalogue).all(|f| {
+        is_lawful(
             settings, inflation, requests, f, place, file, size, cost, freq, key, stamp,
-        ) {
-            return false;
-        }
-        f += 1;
-    }
-    true
+        )
+    })
 }

@@ -28,16 +28,14 @@ pub(crate) fn sum_kept(catalogue: Catalogue, place: &[u16], size: &[u32], freq: 
     let mut files = 0;
     let mut bytes = Bytes(0);
     let mut freqs = 0;
-    let mut f = 0;
-    while f < n {
-        let p = place[f] as usize;
-        if p != Places::NONE as usize {
+    for home in &place[..n] {
+        if *home != Places::NONE {
+            let p = *home as usize;
             files += 1;
             let more = Bytes(size[p] as u64);
             bytes = bytes.plus(more);
             freqs += freq[p] as u64;
         }
-        f += 1;
     }
     Sums {
         files: files,
@@ -71,13 +69,11 @@ pub(crate) fn add_products(
 {
     let n = catalogue.count();
     let mut sum = start;
-    let mut f = 0;
-    while f < n {
-        let p = place[f] as usize;
-        if p != Places::NONE as usize {
+    for home in &place[..n] {
+        if *home != Places::NONE {
+            let p = *home as usize;
             sum = sum.plus(kept_product(size[p], cost[p], freq[p] as u64));
         }
-        f += 1;
     }
     sum
 }

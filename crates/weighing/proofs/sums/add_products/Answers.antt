@@ -1,36 +1,42 @@
 -- `weighing::sums::add_products` meets its contract. Assumes nothing.
-use mathlib.Core.Path.{sym, subst}
-use Prim.Native.Nat.{◌<◌}
+use mathlib.Core.Path.{◌≡◌, sym, subst}
+use Prim.Native.Nat.{ℕ, ◌<◌}
 use native.Mathlib.Omega.{arith}
-use lib.ListN.{length}
+use lib.ListN.{length, get_or, take, length-take}
+use lib.Seq.{get_or-take}
 use Rattle.large.specs.Large.{Is}
 use Rattle.weighing.proofs.Adding.{Adding, run_nobody, run_few, run_none, run_some, product_below}
 use Rattle.weighing.proofs.sums.add_products.Goals as goal
-use Rattle.weighing.proofs.sums.add_products.Goals.{then-p, else-p}
+use Rattle.weighing.proofs.sums.add_products.Goals.{then-home, else-home}
 
-pub loop-f-init : goal.loop-f-init
-loop-f-init c = (omega arith, run_nobody _ _ c.requires.normal)
+pub loop-home-init : goal.loop-home-init
+loop-home-init c = run_nobody _ _ c.requires.normal
 
 -- the file is one of the catalogue, and its place one of the tables', with a size and a cost in force
-pub plus-sum-requires : goal.plus-sum-requires
-plus-sum-requires c =
-    let inside : c.loop-f.f < c.args.catalogue.0 = omega (arith, c.count-n.ensures, c.loop-f-test.true) in
+pub plus-sum-requires-clause-high_bound : goal.plus-sum-requires-clause-high_bound
+plus-sum-requires-clause-high_bound c =
     let pre = c.requires in
-    let running = c.loop-f.invariant.1 in
-    let few = run_few _ _ running pre.normal in
-    let less = product_below pre.weighable _ inside c.if-p.true c.kept_product.ensures in
-    record { normal = running.is.normal; high_bound = (omega (arith, few, pre.high_le_requests_most, pre.weighable.summable.few, inside), less) }
+    let n : ℕ = c.count-n.result in
+    let file : ℕ = c.loop-home.home-index in
+    let inside : file < n = omega (arith, length-take n c.args.place.now, c.loop-home-test.true) in
+    let here : get_or (take n c.args.place.now) file 0 ≡ get_or c.args.place.now file 0 = get_or-take n c.args.place.now file 0 inside in
+    let few = run_few _ _ c.loop-home.invariant pre.normal in
+    let less = product_below pre.weighable file (omega (arith, c.count-n.ensures)) (rw here at c.if-home.true) (rw here at c.kept_product.ensures) in
+    (omega (arith, few, pre.high_le_requests_most, pre.weighable.summable.few, c.count-n.ensures, inside), less)
 
-pub loop-f-preserved : goal.loop-f-preserved
-loop-f-preserved c =
-    let inside : c.loop-f.f < c.args.catalogue.0 = omega (arith, c.count-n.ensures, c.loop-f-test.true) in
-    let loop = c.loop-f in
-    let l : loop.f < length c.args.place.now = omega (arith, c.requires.weighable.summable.long, inside) in (
-      omega (arith, c.loop-f-test.true),
-      elim c.if-p.branch [
-        | then-p w ↦
-            let less = product_below c.requires.weighable _ inside w.if-p.true w.kept_product.ensures in
-            run_some _ _ loop.invariant.1 l w.if-p.true w.kept_product.ensures less (subst (Is _) (sym w.sum-is) w.plus-sum.ensures)
-        | else-p w ↦ subst (Adding _ _ _) (sym w.sum-is) (run_none _ _ loop.invariant.1 l w.if-p.false)
-      ],
-    )
+pub loop-home-preserved : goal.loop-home-preserved
+loop-home-preserved c =
+    let loop = c.loop-home in
+    let n : ℕ = c.count-n.result in
+    let inside : loop.home-index < n = omega (arith, length-take n c.args.place.now, c.loop-home-test.true) in
+    let known : loop.home-index < c.args.catalogue.0 = omega (arith, c.count-n.ensures, inside) in
+    let here : get_or (take n c.args.place.now) loop.home-index 0 ≡ get_or c.args.place.now loop.home-index 0 = get_or-take n c.args.place.now loop.home-index 0 inside in
+    let l : loop.home-index < length c.args.place.now = omega (arith, c.requires.weighable.summable.long, known) in
+    elim c.if-home.branch [
+      | then-home w ↦
+          let some = rw here at w.if-home.true in
+          let due = rw here at w.kept_product.ensures in
+          let less = product_below c.requires.weighable _ known some due in
+          run_some _ _ loop.invariant l some due less (subst (Is _) (sym w.sum-is) w.plus-sum.ensures)
+      | else-home w ↦ subst (Adding _ _ _) (sym w.sum-is) (run_none _ _ loop.invariant l (rw here at w.if-home.false))
+    ]
