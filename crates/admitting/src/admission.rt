@@ -8,7 +8,7 @@ use amounts::{Bytes, Cost};
 use counting::with_pass;
 use method::{Outcome, Pass};
 use newcomer::{admitted, limit, newcomer};
-use shelving::{Room, drop_behind, keep, make_room, put_back, tell, wide16};
+use shelving::{Room, drop_behind, keep, make_room, put_back, tell};
 use tables::Tally;
 
 // The newcomer enters where room was made: what was set aside is evicted in order, and it takes a free place.
@@ -42,7 +42,7 @@ fn enter(
         a.settings, n, left, place, file, size, cost, freq, key, stamp, queue, free,
     );
     let top = a.settings.places.count() - left - 1;
-    let p = wide16(free[top]);
+    let p = usize::from(free[top]);
     let k = newcomer(a, z, w, room);
     keep(
         left, p, f, k, place, file, size, cost, freq, key, stamp, queue, entry,

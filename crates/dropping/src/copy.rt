@@ -4,7 +4,7 @@ ghost use Rattle.tables.specs.Tables.{tables};
 ghost use Rattle.dropping.specs.Dropping.{Among, dropped_tally, Standing, CopyGone};
 
 use amounts::Bytes;
-use shelving::{drop_behind, wide16, wide32};
+use shelving::drop_behind;
 use tables::Tally;
 
 // The tally without a copy of so many bytes: nothing is evicted, and L stays.
@@ -40,8 +40,8 @@ pub(crate) fn drop_copy(
 {
     let n = a.files_kept as usize;
     let last = n - 1;
-    let z = Bytes(wide32(size[p]));
-    let at = wide16(entry[p]);
+    let z = Bytes(u64::from(size[p]));
+    let at = usize::from(entry[p]);
     queue::remove(queue, entry, key, stamp, n, at, p as u16);
     drop_behind(
         a.settings, n, last, place, file, size, cost, freq, key, stamp, queue, free,

@@ -5,7 +5,6 @@ ghost use Rattle.dropping.specs.Cleaning.{Cleanable, old_in, Cleans};
 use crate::copy::drop_copy;
 use amounts::{Bytes, Places};
 use method::{STALE, event};
-use shelving::{wide16, wide32};
 use tables::Tally;
 
 // The tally once no stale copy of the file is kept, and where the next event is due.
@@ -40,8 +39,8 @@ pub fn drop_stale(
     if home == Places::NONE {
         return Cleaned { tally: a, due: at };
     }
-    let p = wide16(home);
-    if wide32(size[p]) == z.0 {
+    let p = usize::from(home);
+    if u64::from(size[p]) == z.0 {
         return Cleaned { tally: a, due: at };
     }
     events[at] = event(STALE, f);

@@ -4,7 +4,6 @@ ghost use Rattle.method.specs.Method as method;
 ghost use Rattle.hitting.specs.Hitting.{Hittable, HitDone};
 
 use amounts::{Bytes, Cost, Key, Policy};
-use shelving::{wide16, wide32};
 use tables::Tally;
 
 // The frequency after a hit: policy 1 does not count, and at its limit it stops rising.
@@ -35,11 +34,11 @@ pub fn hit(
     requires { Hittable a p size.now cost.now freq.old key.old stamp.old queue.old entry.old }
     ensures { HitDone a p size.now cost.now freq.old key.old stamp.old queue.old entry.old freq.new key.new stamp.new queue.new entry.new result }
 {
-    let z = Bytes::size(wide32(size[p]));
-    let w = Cost::asked(wide16(cost[p]) as u64);
-    let f = again(a.settings.policy, wide32(freq[p]));
+    let z = Bytes::size(u64::from(size[p]));
+    let w = Cost::asked(u64::from(cost[p]));
+    let f = again(a.settings.policy, u64::from(freq[p]));
     let k = a.inflation.plus(amounts::product(f, z, w));
-    let at = wide16(entry[p]);
+    let at = usize::from(entry[p]);
     freq[p] = f as u32;
     queue::rekey(
         queue,

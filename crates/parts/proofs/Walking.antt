@@ -6,7 +6,7 @@ use Prim.Native.Nat.{ℕ, suc, ◌+◌, ◌-◌, ◌*◌, ◌≤◌, ◌<◌}
 use native.Mathlib.Omega.{arith}
 use lib.ListN.{length, set, drop, length-append, length-map}
 use lib.Seq.{sets, length-sets}
-use Rattle.amounts.specs.Limits.{requests_most, lift, catalogue_most, is_catalogue, is_size, is_cost}
+use Rattle.amounts.specs.Limits.{requests_most, lift, catalogue_most, is_catalogue, is_size}
 use Rattle.amounts.specs.Settings.{in_range}
 use Rattle.amounts.specs.Requests.{Request, Ranged}
 use Rattle.amounts.specs.declared.settings.Settings.{Settings}
@@ -32,7 +32,7 @@ use Rattle.tables.proofs.Shelves.{shelf_length}
 use Rattle.counting.specs.Counting.{whole_tally}
 use Rattle.serving.specs.Serving.{Running, whole_step, Servable, Stepped, asked, beyond_of}
 use Rattle.refusing.specs.Judging.{requests_in}
-use Rattle.parts.specs.Parts.{run_from, lifts_from, events_of, Ready, PartServed}
+use Rattle.parts.specs.Parts.{run_from, lifts_from, events_of, PartServed}
 use Rattle.parts.specs.declared.Ended.{Ended}
 use Rattle.serving.specs.declared.step.Step.{Step}
 use Rattle.serving.proofs.Writing.{sets_append}
@@ -52,24 +52,6 @@ pub record Walk (a : Tally) (part : List ℕ) (count : ℕ) (t₀ : Tables) (tol
   pub counts : e + length (events_of rest (run_from b t rest)) ≡ length (events_of (requests_in a part) (run_from a t₀ (requests_in a part)))
   pub lifts : lifts_from b t rest ≡ lifts_from a t₀ (requests_in a part)
   pub past : beyond_of a.settings t ≡ beyond_of a.settings t₀
-
-pub walk_first : (a : Tally) (part : List ℕ) (count : ℕ) (t : Tables) (entry free told : List ℕ) → Ready a part count t entry free told → Walk a part count t told t entry free told a 0 0 0
-walk_first a part count t entry free told h =
-    record {
-      rest = requests_in a part;
-      left = h.reads;
-      number = omega (arith, h.counts);
-      settings = refl;
-      running = h.running;
-      few = omega (arith, h.few, h.counts);
-      room = omega (arith, h.room, h.counts);
-      state = refl;
-      sums = refl;
-      written = refl;
-      counts = omega arith;
-      lifts = refl;
-      past = refl;
-    }
 
 pub good_one : {l m : List Request} → good l ≡ good m → l ≡ m
 good_one e = cc
@@ -181,12 +163,9 @@ module _ (a : Tally) (part : List ℕ) (count : ℕ) (t₀ : Tables) (told₀ : 
         room = omega (arith, w.room, length_rest);
       }
 
-  -- its size and its cost are in range
+  -- its size is in range
   pub walk_size : is_size y.size ≡ true
   walk_size = subst (λ (n : ℕ). is_size n ≡ true) (sym turn.first.size) turn.ranged.size
-
-  pub walk_cost : is_cost y.cost ≡ true
-  walk_cost = subst (λ (n : ℕ). is_cost n ≡ true) (sym turn.first.cost) turn.ranged.cost
 
   pub walk_servable : (f sz co : ℕ) → f ≡ y.file → sz ≡ y.size → co ≡ y.cost → Servable b (asked f sz co) t entry free told e
   walk_servable f sz co ef es ec =

@@ -7,7 +7,6 @@ ghost use Rattle.parts.specs.Parts.{Ready, PartServed};
 
 use amounts::{Bytes, Cost};
 use serving::serve;
-use shelving::{wide16, wide32};
 use tables::Tally;
 
 // The tally after a part, and how many events it wrote.
@@ -40,14 +39,14 @@ pub fn serve_part(
     let mut b = a;
     let mut at: usize = 0;
     let mut told: usize = 0;
-    let mut i: usize = 0;
-    while i < count {
+    for _ in 0..count {
         let q = trace::request_at(part, at);
-        let z = Bytes::size(wide32(q.size));
-        let w = Cost::asked(wide16(q.cost) as u64);
+        let f = usize::from(q.file);
+        let z = Bytes::size(u64::from(q.size));
+        let w = Cost::asked(u64::from(q.cost));
         let step = serve(
             b,
-            wide16(q.file),
+            f,
             z,
             w,
             place,
@@ -67,7 +66,6 @@ pub fn serve_part(
         b = tally;
         told = step.events;
         at = q.next;
-        i += 1;
     }
     Ended {
         tally: b,

@@ -11,7 +11,6 @@ use dropping::drop_stale;
 use hitting::hit;
 use lifting::lift;
 use method::{Outcome, Pass, event};
-use shelving::wide16;
 use tables::Tally;
 
 // A hit, a pass or an admission, w being the cost in force: of the events only the evictions are written.
@@ -40,7 +39,7 @@ fn meet(
     if home != Places::NONE {
         return Untold {
             outcome: Outcome::Hit,
-            tally: hit(a, wide16(home), size, cost, freq, key, stamp, queue, entry),
+            tally: hit(a, usize::from(home), size, cost, freq, key, stamp, queue, entry),
             due: at,
         };
     }

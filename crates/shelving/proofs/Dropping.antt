@@ -197,9 +197,6 @@ pub record Falling (s : Settings) (n m : ℕ) (t₀ t : Tables) (free₀ free : 
   pub lengths : SameLengths t₀ t
   pub free_length : length free ≡ length free₀
 
-pub falling_first : (s : Settings) (n m : ℕ) (t : Tables) (free : List ℕ) → Droppable s n m t free → Falling s n m t t free free n
-falling_first s n m t free h = record { asks = h; lent = refl; stack = refl; lengths = same_lengths t; free_length = refl }
-
 pub falling_more : (s : Settings) (n m : ℕ) (t₀ t u : Tables) (free₀ free : List ℕ) (i : ℕ) → Falling s n m t₀ t free₀ free i → m < i → u ≡ drop_last i t
     → Falling s n m t₀ u free₀ (set free (s.places.0 - i) (last_place i t)) (i - 1)
 unfolding drop_all stack_all

@@ -17,9 +17,6 @@ pub record Telling (n m : ℕ) (file queue events₀ events : List ℕ) (at i e 
   pub written : sets events e (evictions file queue i (i - m)) ≡ sets events₀ at (evictions file queue n (n - m))
   pub long : length events ≡ length events₀
 
-pub telling_first : (n m : ℕ) (file queue events : List ℕ) (at : ℕ) → Tellable n m file queue events at → Telling n m file queue events events at n at
-telling_first n m file queue events at h = record { asks = h; written = refl; long = refl }
-
 pub telling_more : (n m : ℕ) (file queue events₀ events : List ℕ) (at i e v : ℕ) → Telling n m file queue events₀ events at i e → m < i → v ≡ event 5 (get_or file (get_or queue (i - 1) 0) 0)
     → Telling n m file queue events₀ (set events e v) at (i - 1) (e + 1)
 unfolding evictions

@@ -1,11 +1,9 @@
 // The files set aside leave: their events are told in order, then their records and places go.
-ghost use Rattle.std.specs.Prelude.{◌≡◌};
 ghost use Rattle.tables.specs.Tables.{tables};
 ghost use Rattle.shelving.specs.Evicting.{Droppable, Dropped};
 ghost use Rattle.shelving.specs.Telling.{Tellable, Told};
 
 use crate::records::clear;
-use crate::wide::wide16;
 use amounts::Settings;
 
 // Writes the evictions: the files behind the queue, from the last of n entries down.
@@ -13,14 +11,11 @@ pub fn tell(n: usize, left: usize, file: &[u16], queue: &[u16], events: &mut [u3
     requires { Tellable n left file.now queue.now events.old at }
     ensures { Told n left file.now queue.now events.old at events.new }
 {
-    let mut i = n;
     let mut e = at;
-    while left < i {
-        let last = i - 1;
-        let p = wide16(queue[last]);
-        events[e] = method::event(method::EVICT, wide16(file[p]));
+    for last in (left..n).rev() {
+        let p = usize::from(queue[last]);
+        events[e] = method::event(method::EVICT, usize::from(file[p]));
         e += 1;
-        i = last;
     }
 }
 
@@ -42,16 +37,13 @@ pub fn drop_behind(
     requires { Droppable settings n left (tables place.old file.old size.old cost.old freq.old key.old stamp.old queue.old) free.old }
     ensures { Dropped settings n left (tables place.old file.old size.old cost.old freq.old key.old stamp.old queue.old) free.old (tables place.new file.new size.new cost.new freq.new key.new stamp.new queue.new) free.new }
 {
-    let mut i = n;
-    while left < i {
-        let last = i - 1;
+    for last in (left..n).rev() {
         let freed = queue[last];
-        let p = wide16(freed);
-        let f = wide16(file[p]);
+        let p = usize::from(freed);
+        let f = usize::from(file[p]);
         clear(p, f, place, file, size, cost, freq, key, stamp);
         queue[last] = 0;
-        let height = settings.places.count() - i;
+        let height = settings.places.count() - (last + 1);
         free[height] = freed;
-        i = last;
     }
 }

@@ -5,10 +5,8 @@ mod evict;
 mod keeping;
 mod records;
 mod room;
-mod wide;
 
 pub use evict::{drop_behind, tell};
 pub use keeping::keep;
 pub use records::Kept;
 pub use room::{Room, make_room, put_back};
-pub use wide::{wide16, wide32};

@@ -7,13 +7,13 @@ pub overflow_sub-last : goal.overflow_sub-last
 overflow_sub-last c = omega (arith, some c.requires)
 
 pub remove-requires : goal.remove-requires
-remove-requires c = holding c.requires c.wide16-at.ensures
+remove-requires c = holding c.requires c.from-at.ensures
 
 pub drop_behind-requires : goal.drop_behind-requires
-drop_behind-requires c = droppable c.requires c.wide16-at.ensures c.remove.ensures
+drop_behind-requires c = droppable c.requires c.from-at.ensures c.remove.ensures
 
 pub without-requires : goal.without-requires
-without-requires c = among c.requires c.wide32.ensures
+without-requires c = among c.requires c.from.ensures
 
 pub returns : goal.returns
-returns c = gone c.requires c.wide16-at.ensures c.remove.ensures c.drop_behind.ensures c.wide32.ensures c.without.ensures
+returns c = gone c.requires c.from-at.ensures c.remove.ensures c.drop_behind.ensures c.from.ensures c.without.ensures

@@ -8,10 +8,10 @@ use Rattle.dropping.proofs.stale.drop_stale.Goals as goal
 pub returns-then-home : goal.returns-then-home
 returns-then-home c = still_out c.requires c.args.z.0 c.if-home.true
 
-pub returns-then-wide32-z : goal.returns-then-wide32-z
-returns-then-wide32-z c =
-    let same : get_or c.args.size.now c.wide16-p.result 0 ≡ c.args.z.0 = omega (arith, c.wide32.ensures, c.if-wide32-z.true) in
-    still_same c.requires c.if-home.false c.wide16-p.ensures same
+pub returns-then-from-z : goal.returns-then-from-z
+returns-then-from-z c =
+    let same : get_or c.args.size.now c.from-p.result 0 ≡ c.args.z.0 = omega (arith, c.from.ensures, c.if-from-z.true) in
+    still_same c.requires c.if-home.false c.from-p.ensures same
 
 pub event-requires : goal.event-requires
 event-requires c = (omega arith, known c.requires c.if-home.false)
@@ -21,4 +21,4 @@ pub bounds-events-at : goal.bounds-events-at
 bounds-events-at c = omega (arith, space c.requires c.if-home.false)
 
 pub returns : goal.returns
-returns c = drops c.requires c.if-home.false c.wide16-p.ensures (λ e. omega (arith, e, c.wide32.ensures, c.if-wide32-z.false)) c.event.ensures c.drop_copy-tally.ensures
+returns c = drops c.requires c.if-home.false c.from-p.ensures (λ e. omega (arith, e, c.from.ensures, c.if-from-z.false)) c.event.ensures c.drop_copy-tally.ensures

@@ -8,4 +8,4 @@ use Rattle.hitting.proofs.renewal.hit.Goals as goal
 pub size-z-requires : goal.size-z-requires
 size-z-requires c =
     let v = c.requires.valued in
-    in_one_to size_most _ (omega (arith, c.wide32.ensures, v.size_least)) (omega (arith, c.wide32.ensures, v.size_at_most))
+    in_one_to size_most _ (omega (arith, c.from.ensures, v.size_least)) (omega (arith, c.from.ensures, v.size_at_most))

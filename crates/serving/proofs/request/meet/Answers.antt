@@ -6,10 +6,10 @@ use Rattle.serving.proofs.Cases.{hittable_at, strikes_at, bigs, admitted}
 use Rattle.serving.proofs.request.meet.Goals as goal
 
 pub hit-requires : goal.hit-requires
-hit-requires c = hittable_at c.requires c.if-home.true c.wide16.ensures
+hit-requires c = hittable_at c.requires c.if-home.true c.from.ensures
 
 pub returns-then-home : goal.returns-then-home
-returns-then-home c = strikes_at c.requires c.if-home.true c.wide16.ensures c.hit.ensures
+returns-then-home c = strikes_at c.requires c.if-home.true c.from.ensures c.hit.ensures
 
 pub returns-then-not-at_most : goal.returns-then-not-at_most
 returns-then-not-at_most c = bigs c.requires c.if-home.false c.at_most.ensures (ap not c.if-not-at_most.true) c.with_pass.ensures

@@ -7,10 +7,10 @@ use Rattle.shelving.proofs.Tellings.{telling_more, telling_end}
 use Rattle.shelving.proofs.evict.tell.Goals as goal
 
 -- the file is the last entry's
-pub loop-i-preserved : goal.loop-i-preserved
-loop-i-preserved c =
-    let is_last : let x = c.args in c.wide16.result ≡ get_or x.file.now (get_or x.queue.now (c.loop-i.i - 1) 0) 0 = c.wide16.ensures ∙ ap (λ (k : ℕ). get_or c.args.file.now k 0) c.wide16-p.ensures in
-    telling_more _ _ _ _ _ _ _ _ _ _ c.loop-i.invariant c.loop-i-test.true (c.event.ensures ∙ ap (event 5) is_last)
+pub loop-last-preserved : goal.loop-last-preserved
+loop-last-preserved c =
+    let is_last : let x = c.args in c.from.result ≡ get_or x.file.now (get_or x.queue.now (c.loop-last.last - 1) 0) 0 = c.from.ensures ∙ ap (λ (k : ℕ). get_or c.args.file.now k 0) c.from-p.ensures in
+    telling_more _ _ _ _ _ _ _ _ _ _ c.loop-last.invariant c.loop-last-test.true (c.event.ensures ∙ ap (event 5) is_last)
 
 pub returns : goal.returns
-returns c = telling_end _ _ _ _ _ _ _ _ _ c.loop-i.invariant c.loop-i-test.false
+returns c = telling_end _ _ _ _ _ _ _ _ _ c.loop-last.invariant c.loop-last-test.false
