@@ -3,7 +3,9 @@ ghost use Rattle.std.specs.Prelude.{◌≡◌};
 ghost use Rattle.method.specs.Method as method;
 ghost use Rattle.hitting.specs.Hitting.{Hittable, HitDone};
 
-use amounts::{Bytes, Cost, Key, Policy};
+use amounts::{Bytes, Cost, Key, Policy, product};
+use counting::counted;
+use method::Outcome;
 use shelving::{wide16, wide32};
 use tables::Tally;
 
@@ -38,7 +40,7 @@ pub fn hit(
     let z = Bytes::size(wide32(size[p]));
     let w = Cost::asked(wide16(cost[p]) as u64);
     let f = again(a.settings.policy, wide32(freq[p]));
-    let k = a.inflation.plus(amounts::product(f, z, w));
+    let k = a.inflation + product(f, z, w);
     let at = wide16(entry[p]);
     freq[p] = f as u32;
     queue::rekey(
@@ -51,5 +53,5 @@ pub fn hit(
         k.0,
         a.requests,
     );
-    counting::with_hit(a, z, w)
+    counted(a, Outcome::Hit, z, w)
 }

@@ -24,7 +24,7 @@ loop-f-preserved c =
       | then-p w ↦ (
         omega arith,
         to_some _ _ t loop.invariant.1 l w.if-p.true (omega arith) w.files-is,
-        to_some _ _ t loop.invariant.2 l w.if-p.true (omega (arith, c.type_inv.size p)) (ap (λ (b : Bytes). b.0) w.bytes-is ∙ w.plus-bytes.ensures),
+        to_some _ _ t loop.invariant.2 l w.if-p.true (omega (arith, c.type_inv.size p)) (ap (λ (b : Bytes). b.0) w.bytes-is ∙ w.add_assign.ensures.after),
         to_some _ _ t loop.invariant.3 l w.if-p.true (omega (arith, c.type_inv.freq p)) w.freqs-is,
       )
       | else-p w ↦ (
