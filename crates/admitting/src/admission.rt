@@ -4,8 +4,8 @@ ghost use Rattle.admitting.specs.Deciding.{asked, Met};
 ghost use Rattle.admitting.specs.Admitting.{Enterable, enters, Admissible, admits};
 
 use crate::untold::Untold;
-use amounts::{Bytes, Cost};
-use counting::with_pass;
+use amounts::{Bytes, Cost, product};
+use counting::counted;
 use method::{Outcome, Pass};
 use newcomer::{admitted, limit, newcomer};
 use shelving::{Room, drop_behind, keep, make_room, put_back, tell};
@@ -76,16 +76,17 @@ pub fn admit(
     requires { Admissible a (asked f z.0 w.0) (tables place.old file.old size.old cost.old freq.old key.old stamp.old queue.old) entry.old free.old events.old at }
     ensures { Met a (tables place.old file.old size.old cost.old freq.old key.old stamp.old queue.old) events.old at (admits a (asked f z.0 w.0) (tables place.old file.old size.old cost.old freq.old key.old stamp.old queue.old)) result (tables place.new file.new size.new cost.new freq.new key.new stamp.new queue.new) entry.new free.new events.new }
 {
-    let k = a.inflation.plus(amounts::product(1, z, w));
+    let k = a.inflation + product(1, z, w);
     let most = limit(a.settings.policy, k);
     let room = make_room(a, z, most, size, key, stamp, queue, entry);
     if room.low {
         let n = a.files_kept as usize;
         let left = room.left;
         put_back(n, left, key, stamp, queue, entry);
+        let outcome = Outcome::Passed(Pass::LowKey);
         return Untold {
-            outcome: Outcome::Passed(Pass::LowKey),
-            tally: with_pass(a, z, w),
+            outcome,
+            tally: counted(a, outcome, z, w),
             due: at,
         };
     }

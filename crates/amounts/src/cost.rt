@@ -1,12 +1,13 @@
 // The cost of fetching a file, and sums of costs.
-ghost use Rattle.std.specs.Prelude.{◌≡◌, true, ◌+◌, ◌<◌, ◌≤◌, leb};
+ghost use Rattle.std.specs.Prelude.{◌≡◌, true, ◌+◌, ◌<◌, ◌≤◌};
 ghost use Rattle.amounts.specs.Limits.{is_cost, is_size, cost_most, requests_most, word, total_of};
 ghost use Rattle.amounts.specs.Worth.{in_force};
 
 use crate::bytes::Bytes;
 use crate::range::total_of;
+use std::ops::{Add, AddAssign};
 
-#[derive(Clone, Copy)]
+#[derive(Clone, Copy, Debug, PartialEq, Eq, PartialOrd, Ord)]
 pub struct Cost(pub u64);
 
 impl Cost {
@@ -42,26 +43,34 @@ impl Cost {
         self
     }
 
-    // Two costs together.
-    pub fn plus(self, more: Cost) -> Cost
-        requires { self.0 + more.0 < word }
-        ensures { result.0 ≡ self.0 + more.0 }
-    {
-        Cost(self.0 + more.0)
-    }
-
-    // Whether a cost is no more than another.
-    pub fn at_most(self, most: Cost) -> bool
-        ensures { result ≡ leb self.0 most.0 }
-    {
-        self.0 <= most.0
-    }
-
     // Whether so many files can cost so much.
     pub fn is_total_of(self, files: u64) -> bool
         requires { files ≤ requests_most }
         ensures { result ≡ total_of cost_most files self.0 }
     {
         total_of(Cost::MOST, files, self.0)
+    }
+}
+
+// Two costs together.
+impl Add for Cost {
+    type Output = Cost;
+
+    ghost can_add = { λ a b. a.0 + b.0 < word };
+
+    ghost add_gives = { λ a b r. r.0 ≡ a.0 + b.0 };
+
+    fn add(self, more: Cost) -> Cost {
+        Cost(self.0 + more.0)
+    }
+}
+
+impl AddAssign for Cost {
+    ghost can_add_assign = { λ a b. a.0 + b.0 < word };
+
+    ghost add_assign_gives = { λ a b r. r.0 ≡ a.0 + b.0 };
+
+    fn add_assign(&mut self, more: Cost) {
+        *self = *self + more;
     }
 }

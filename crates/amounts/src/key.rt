@@ -1,13 +1,14 @@
 // A key, as inflation and the product are too; and which of two files is lower.
-ghost use Rattle.std.specs.Prelude.{◌≡◌, ◌+◌, ◌-◌, ◌<◌, ◌≤◌, leb};
+ghost use Rattle.std.specs.Prelude.{◌≡◌, ◌+◌, ◌-◌, ◌<◌, ◌≤◌};
 ghost use Rattle.amounts.specs.Limits.{frequency_most, word};
 ghost use Rattle.amounts.specs.Worth.{product_of, Valued};
 ghost use Rattle.amounts.specs.Order.{lower_of};
 
 use crate::bytes::Bytes;
 use crate::cost::Cost;
+use std::ops::{Add, Sub};
 
-#[derive(Clone, Copy)]
+#[derive(Clone, Copy, Debug, PartialEq, Eq, PartialOrd, Ord)]
 pub struct Key(pub u64);
 
 impl Key {
@@ -21,28 +22,31 @@ impl Key {
 
     // Inflation stays below two lifts.
     pub const INFLATION_MOST: u64 = 2305843009213693951;
+}
 
-    // The key of a file: inflation and what the file adds to it.
-    pub fn plus(self, more: Key) -> Key
-        requires { self.0 + more.0 < word }
-        ensures { result.0 ≡ self.0 + more.0 }
-    {
+// The key of a file: inflation and what the file adds to it.
+impl Add for Key {
+    type Output = Key;
+
+    ghost can_add = { λ a b. a.0 + b.0 < word };
+
+    ghost add_gives = { λ a b r. r.0 ≡ a.0 + b.0 };
+
+    fn add(self, more: Key) -> Key {
         Key(self.0 + more.0)
     }
+}
 
-    // How far a key stands above another.
-    pub fn minus(self, less: Key) -> Key
-        requires { less.0 ≤ self.0 }
-        ensures { result.0 ≡ self.0 - less.0 }
-    {
+// How far a key stands above another.
+impl Sub for Key {
+    type Output = Key;
+
+    ghost can_sub = { λ a b. b.0 ≤ a.0 };
+
+    ghost sub_gives = { λ a b r. r.0 ≡ a.0 - b.0 };
+
+    fn sub(self, less: Key) -> Key {
         Key(self.0 - less.0)
-    }
-
-    // Whether a key is no more than another.
-    pub fn at_most(self, most: Key) -> bool
-        ensures { result ≡ leb self.0 most.0 }
-    {
-        self.0 <= most.0
     }
 }
 

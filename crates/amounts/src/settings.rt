@@ -7,7 +7,7 @@ use crate::bytes::Bytes;
 use crate::range::one_to;
 
 // The box that a run belongs to.
-#[derive(Clone, Copy)]
+#[derive(Clone, Copy, Debug, PartialEq, Eq)]
 pub struct Unit(pub u64);
 
 impl Unit {
@@ -25,17 +25,10 @@ impl Unit {
     {
         Unit::is_unit(self.0)
     }
-
-    // Whether two units are the same.
-    pub fn same(self, other: Unit) -> bool
-        ensures { result ≡ eqb self.0 other.0 }
-    {
-        self.0 == other.0
-    }
 }
 
 // 1 is GreedyDual-Size, 2 is GreedyDual-Size-Frequency.
-#[derive(Clone, Copy)]
+#[derive(Clone, Copy, Debug, PartialEq, Eq)]
 pub struct Policy(pub u64);
 
 impl Policy {
@@ -58,7 +51,7 @@ impl Policy {
 }
 
 // How many files are kept at once.
-#[derive(Clone, Copy)]
+#[derive(Clone, Copy, Debug, PartialEq, Eq)]
 pub struct Places(pub u64);
 
 impl Places {
@@ -81,7 +74,7 @@ impl Places {
 }
 
 // How many file numbers there are.
-#[derive(Clone, Copy)]
+#[derive(Clone, Copy, Debug, PartialEq, Eq)]
 pub struct Catalogue(pub u64);
 
 impl Catalogue {
@@ -109,7 +102,7 @@ impl Catalogue {
 }
 
 // How many requests a run has served.
-#[derive(Clone, Copy)]
+#[derive(Clone, Copy, Debug, PartialEq, Eq)]
 pub struct Requests(pub u64);
 
 impl Requests {
@@ -131,7 +124,7 @@ impl Requests {
     }
 }
 
-#[derive(Clone, Copy)]
+#[derive(Clone, Copy, Debug, PartialEq, Eq)]
 pub struct Settings {
     pub unit: Unit,
     pub policy: Policy,

@@ -5,6 +5,8 @@ use Rattle.amounts.specs.Worth.{Valued}
 use Rattle.method.specs.Method as method
 use Rattle.method.specs.Shelf.{bytes, files}
 use Rattle.method.specs.Totals.{Totals, counted, Agreed}
+use Rattle.method.specs.declared.outcome.Outcome.{Outcome}
+use Rattle.method.specs.declared.outcome.Outcome.TheVariants.{Hit, Admitted, Passed}
 use Rattle.tables.specs.Tally.{totals_of}
 use Rattle.tables.specs.declared.tally.Tally.{Tally}
 
@@ -104,6 +106,12 @@ pass_tally a size cost = tallied a a.inflation.0 a.bytes_kept.0 a.files_kept (pa
 -- document 01, "Tables and the tally": an admission more, with what is kept and what was evicted as it was
 abbrev pub admit_tally : Tally → ℕ → ℕ → Tally
 admit_tally a size cost = tallied a a.inflation.0 a.bytes_kept.0 a.files_kept (admitted_totals (totals_of a) size cost a.evicted)
+
+-- document 01, "Tables and the tally": a request more, by its outcome
+abbrev pub counted_tally : Tally → Outcome → ℕ → ℕ → Tally
+counted_tally a Hit size cost = hit_tally a size cost
+counted_tally a Admitted size cost = admit_tally a size cost
+counted_tally a (Passed why) size cost = pass_tally a size cost
 
 -- document 01, "Tables and the tally": one request more can be counted
 pub record Countable (a : Tally) (size cost : ℕ) : Type 0 where

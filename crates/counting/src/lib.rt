@@ -1,9 +1,6 @@
-// The tally of a run with one request more, counted where the tally stands.
+// The tally of a run with one request more.
 #![tactic(auto)]
 
-mod counted;
-mod lent;
-mod with;
+mod request;
 
-pub use lent::{count_admit, count_hit, count_pass};
-pub use with::{with_admit, with_hit, with_pass};
+pub use request::counted;

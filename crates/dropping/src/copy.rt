@@ -13,10 +13,9 @@ fn without(a: Tally, z: Bytes) -> Tally
     ensures { result ≡ dropped_tally a z.0 }
 {
     let mut b = a;
-    let bytes = a.bytes_kept.minus(z);
-    b.bytes_kept = bytes;
-    b.files_kept = a.files_kept - 1;
-    b.dropped = a.dropped + 1;
+    b.bytes_kept -= z;
+    b.files_kept -= 1;
+    b.dropped += 1;
     b
 }
 

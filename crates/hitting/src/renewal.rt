@@ -3,7 +3,9 @@ ghost use Rattle.std.specs.Prelude.{◌≡◌};
 ghost use Rattle.method.specs.Method as method;
 ghost use Rattle.hitting.specs.Hitting.{Hittable, HitDone};
 
-use amounts::{Bytes, Cost, Key, Policy};
+use amounts::{Bytes, Cost, Key, Policy, product};
+use counting::counted;
+use method::Outcome;
 use tables::Tally;
 
 // The frequency after a hit: policy 1 does not count, and at its limit it stops rising.
@@ -37,7 +39,7 @@ pub fn hit(
     let z = Bytes::size(u64::from(size[p]));
     let w = Cost::asked(u64::from(cost[p]));
     let f = again(a.settings.policy, u64::from(freq[p]));
-    let k = a.inflation.plus(amounts::product(f, z, w));
+    let k = a.inflation + product(f, z, w);
     let at = usize::from(entry[p]);
     freq[p] = f as u32;
     queue::rekey(
@@ -50,5 +52,5 @@ pub fn hit(
         k.0,
         a.requests,
     );
-    counting::with_hit(a, z, w)
+    counted(a, Outcome::Hit, z, w)
 }

@@ -1,15 +1,24 @@
--- Two large numbers of as many lifts are compared by what is left. Assumes nothing.
-use mathlib.Core.Path.{◌≡◌, refl, sym, ◌∙◌}
-use mathlib.Core.Bool.{Bool, true, false}
+-- Large numbers compared word by word are compared as the numbers that they are. Assumes nothing.
+use mathlib.Core.Path.{◌≡◌, sym}
+use Prim.Native.Nat.{ℕ, ◌/◌, ◌%◌, ◌<◌}
 use native.Mathlib.Omega.{arith}
 use lib.Dec.{leb}
-use borrow.Author.Tests.{leb-true, leb-false, le-leb, lt-leb}
-use Rattle.large.specs.Large.{value_of}
-use Rattle.large.specs.declared.Large.{Large}
+use borrow.Author.Tests.{le-leb, lt-leb}
+use Rattle.std.specs.Cmp.{ranks}
+use Rattle.std.specs.Ordering.{MatchOrdering, nat_cmp, is_le, is_some_and, partial_ordering_then, partial_le}
+use Rattle.std.proofs.Common.{Some, Ordering, Less, Equal, Greater}
+use Rattle.amounts.specs.Limits.{lift}
+use Rattle.large.specs.contracts.LargePartialOrd.TheImpl.{partial_cmp-value}
 
-pub at_most_low : (v w : Large) → v.high ≡ w.high → leb v.low w.low ≡ leb (value_of v) (value_of w)
-at_most_low v w e = go (leb v.low w.low) refl
+-- document 02, ticket 5: `<=` of two large numbers, whose lifts are compared before what is left
+pub le_value : (a b : ℕ) → partial_le partial_cmp-value.it a b ≡ leb a b
+le_value a b = go (nat_cmp (a / lift) (b / lift)) (nat_cmp (a % lift) (b % lift)) (ranks (a / lift) (b / lift)) (ranks (a % lift) (b % lift))
   where
-    go : (t : Bool) → leb v.low w.low ≡ t → leb v.low w.low ≡ leb (value_of v) (value_of w)
-    go true h = h ∙ sym (le-leb (value_of v) (value_of w) (omega (arith, leb-true v.low w.low h)))
-    go false h = h ∙ sym (lt-leb (value_of v) (value_of w) (omega (arith, leb-false v.low w.low h)))
+    go : (high low : Ordering) → MatchOrdering high (a / lift < b / lift) (a / lift ≡ b / lift) (b / lift < a / lift)
+        → MatchOrdering low (a % lift < b % lift) (a % lift ≡ b % lift) (b % lift < a % lift)
+        → is_some_and is_le (partial_ordering_then (Some high) (Some low)) ≡ leb a b
+    go Less low h k = sym (le-leb a b (omega arith))
+    go Equal Less h k = sym (le-leb a b (omega arith))
+    go Equal Equal h k = sym (le-leb a b (omega arith))
+    go Equal Greater h k = sym (lt-leb a b (omega arith))
+    go Greater low h k = sym (lt-leb a b (omega arith))

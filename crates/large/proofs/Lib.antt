@@ -1,1 +1,2 @@
+-- What the derived order of the large numbers is.
 pub mod Comparing

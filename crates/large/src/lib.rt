@@ -1,17 +1,35 @@
 // A number past 64 bits, in two words: lifts of 2 to the 60th, and what is left below one lift.
 #![tactic(auto)]
 
-ghost use Rattle.std.specs.Prelude.{◌≡◌, ◌+◌, ◌*◌, ◌<◌, ◌≤◌, leb};
+ghost use Rattle.std.specs.Prelude.{◌≡◌, ◌+◌, ◌*◌, ◌/◌, ◌<◌, ◌≤◌};
 ghost use Rattle.amounts.specs.Limits.{word, lift, requests_most};
 ghost use Rattle.amounts.specs.Worth.{worth_most};
-ghost use Rattle.large.specs.Large.{value_of, Normal, Is};
 
 use amounts::{Cost, Key};
+use std::marker::Model;
+use std::ops::AddAssign;
 
-#[derive(Clone, Copy)]
+// The words are compared in this order, the lifts first.
+#[derive(Clone, Copy, Debug, PartialEq, Eq, PartialOrd, Ord)]
 pub struct Large {
-    pub high: u64,
-    pub low: u64,
+    high: u64,
+    low: u64,
+}
+
+impl Model for Large {
+    ghost use Rattle.std.specs.Prelude.{ℕ};
+
+    ghost Value = { ℕ };
+
+    ghost use Rattle.large.specs.Large.{value_of, Normal, words_of, words_back};
+
+    ghost view = { value_of };
+
+    ghost invariant = { Normal };
+
+    ghost inverse = { words_of };
+
+    ghost inverse_ok = { words_back };
 }
 
 impl Large {
@@ -21,7 +39,7 @@ impl Large {
     // So many lifts, and an amount of any word beside them.
     pub fn whole(lifts: u64, left: Key) -> Large
         requires { lifts + 16 < word }
-        ensures { Is (lifts * lift + left.0) result }
+        ensures { result ≡ lifts * lift + left.0 }
     {
         Large {
             high: lifts + left.0 / Key::LIFT,
@@ -29,40 +47,33 @@ impl Large {
         }
     }
 
-    // An amount below one lift is added: at most one lift is carried.
-    pub fn plus(self, more: Key) -> Large
-        requires normal { Normal self }
-        requires high_bound { (self.high + 16 < word) × (more.0 < lift) }
-        ensures { Is (value_of self + more.0) result }
-    {
-        Large::whole(self.high, Key(self.low + more.0))
-    }
-
     // The largest worth for each of so many requests: the largest cost at the scale.
     pub fn worths(requests: u64) -> Large
         requires { requests ≤ requests_most }
-        ensures { Is (requests * worth_most) result }
+        ensures { result ≡ requests * worth_most }
     {
         let costs = requests * Cost::MOST;
-        let low = costs % Large::COSTS * Key::SCALE;
         Large {
             high: costs / Large::COSTS,
-            low: low,
+            low: costs % Large::COSTS * Key::SCALE,
         }
     }
 
-    // Whether the number is at most another.
-    pub fn at_most(self, other: Large) -> bool
-        requires normal { Normal self }
-        requires normal_2 { Normal other }
-        ensures { result ≡ leb (value_of self) (value_of other) }
+    // The whole lifts of the number.
+    pub fn lifts(self) -> u64
+        ensures { result ≡ self / lift }
     {
-        if self.high < other.high {
-            return true;
-        }
-        if other.high < self.high {
-            return false;
-        }
-        self.low <= other.low
+        self.high
+    }
+}
+
+// An amount below one lift is added: at most one lift is carried.
+impl AddAssign<Key> for Large {
+    ghost can_add_assign = { λ n k. (n / lift + 16 < word) × (k.0 < lift) };
+
+    ghost add_assign_gives = { λ n k r. r ≡ n + k.0 };
+
+    fn add_assign(&mut self, more: Key) {
+        *self = Large::whole(self.high, Key(self.low + more.0));
     }
 }

@@ -23,13 +23,12 @@ pub fn lift(a: Tally, queue: &[u16], keys: &mut [u64]) -> Tally
     ensures { Raised a queue.now keys.old keys.new result }
 {
     let one = Key(Key::LIFT);
-    if !one.at_most(a.inflation) {
+    if a.inflation < one {
         return a;
     }
     lift_keys(a.files_kept as usize, queue, keys);
-    let left = a.inflation.minus(one);
     let mut b = a;
-    b.inflation = left;
-    b.lifts = a.lifts + 1;
+    b.inflation = a.inflation - one;
+    b.lifts += 1;
     b
 }

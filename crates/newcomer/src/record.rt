@@ -4,8 +4,9 @@ ghost use Rattle.method.specs.Method as method;
 ghost use Rattle.newcomer.specs.Newcomer.{base_of, limit_of, Worthy, new_record, Admits, admitted_tally};
 ghost use Rattle.shelving.specs.Records.{kept_of};
 
-use amounts::{Bytes, Cost, Key, Policy};
-use counting::with_admit;
+use amounts::{Bytes, Cost, Key, Policy, product};
+use counting::counted;
+use method::Outcome;
 use shelving::{Kept, Room};
 use tables::Tally;
 
@@ -35,12 +36,11 @@ pub fn newcomer(a: Tally, z: Bytes, w: Cost, room: Room) -> Kept
     ensures { kept_of result ≡ new_record a z.0 w.0 room }
 {
     let l = base(a.settings.policy, a.inflation, room.inflation);
-    let k = l.plus(amounts::product(1, z, w));
     Kept {
         size: z,
         cost: w,
         freq: 1,
-        key: k,
+        key: l + product(1, z, w),
         stamp: a.requests,
     }
 }
@@ -51,11 +51,9 @@ pub fn admitted(a: Tally, z: Bytes, w: Cost, room: Room) -> Tally
     ensures { result ≡ admitted_tally a z.0 w.0 room }
 {
     let left = room.left as u64;
-    let mut b = with_admit(a, z, w);
-    let inflation = room.inflation;
-    b.inflation = inflation;
-    let bytes = room.bytes.plus(z);
-    b.bytes_kept = bytes;
+    let mut b = counted(a, Outcome::Admitted, z, w);
+    b.inflation = room.inflation;
+    b.bytes_kept = room.bytes + z;
     b.files_kept = left + 1;
     b.evicted = a.evicted + (a.files_kept - left);
     b

@@ -42,7 +42,7 @@ pub fn judge_settings(
     ) {
         return Settled::Refused(Refusal::Short);
     }
-    if unit.same(a.settings.unit) {
+    if unit == a.settings.unit {
         return Settled::Fine;
     }
     Settled::Refused(Refusal::OtherUnit)

@@ -1,14 +1,12 @@
 -- One request by cases: a hit, a file too big, a newcomer to be admitted. Assumes nothing.
 use mathlib.Core.Path.{◌≡◌, refl, sym, ap, ◌∙◌, subst}
 use mathlib.Core.Logic.{⊎_elim}
-use mathlib.Core.Bool.{Bool, true, false, not}
 use mathlib.Core.List.{List}
-use Prim.Native.Nat.{ℕ, ◌<◌}
+use Prim.Native.Nat.{ℕ, ◌≤◌, ◌<◌}
 use native.Mathlib.Omega.{arith}
-use lib.Dec.{leb}
 use lib.ListN.{get_or, set}
 use lib.Seq.{get_or-set_same, set-get_or}
-use borrow.Author.Tests.{leb-true, leb-false, not-true, not-false, lt-ltb}
+use borrow.Author.Tests.{lt-ltb}
 use Rattle.amounts.specs.Limits.{no_place, word}
 use Rattle.amounts.specs.Requests.{Request}
 use Rattle.amounts.specs.declared.settings.Settings.{Settings}
@@ -149,18 +147,17 @@ module _ {a : Tally} {q : Request} {t : Tables} {entry free events : List ℕ} {
 
 -- ---- a file that is not kept, by the test of its size
 
-module _ {a : Tally} {q : Request} {t : Tables} {entry free events : List ℕ} {at : ℕ} (h : Meetable a q t entry free events at) (out : get_or t.place q.file 0 ≡ no_place)
-    {fits : Bool} (e : fits ≡ leb q.size a.settings.capacity.0) where
-  pub bigs : not fits ≡ true → {b : Tally} → b ≡ pass_tally a q.size q.cost
+module _ {a : Tally} {q : Request} {t : Tables} {entry free events : List ℕ} {at : ℕ} (h : Meetable a q t entry free events at) (out : get_or t.place q.file 0 ≡ no_place) where
+  pub bigs : a.settings.capacity.0 < q.size → {b : Tally} → b ≡ pass_tally a q.size q.cost
       → Met a t events at (meets a q t) (record { outcome = Passed TooBig; tally = b; due = at }) t entry free events
   bigs above tl =
-      let big = lt-ltb a.settings.capacity.0 q.size (leb-false _ _ (sym e ∙ not-true fits above)) in
+      let big = lt-ltb a.settings.capacity.0 q.size above in
       let x : meets a q t ≡ meetings.passed h TooBig = rw (meetings.slot_free h out) (pick_true _ _ big) in
       meetings.passes h TooBig x t.queue entry (meetings.live h.running) refl tl
 
-  module _ (below : not fits ≡ false) where
+  module _ (small : q.size ≤ a.settings.capacity.0) where
     pub admissible : Admissible a q t entry free events at
-    admissible = record { meetable = h; out = out; small = leb-true _ _ (sym e ∙ not-false fits below) }
+    admissible = record { meetable = h; out = out; small = small }
 
     pub admitted : {r : Untold} {u : Tables} {entry' free' events' : List ℕ} → Met a t events at (admits a q t) r u entry' free' events'
         → Met a t events at (meets a q t) r u entry' free' events'

@@ -6,7 +6,7 @@ ghost use Rattle.serving.specs.Serving.{Servable, Stepped};
 use crate::step::Step;
 use admitting::{Untold, admit};
 use amounts::{Bytes, Cost, Places};
-use counting::with_pass;
+use counting::counted;
 use dropping::drop_stale;
 use hitting::hit;
 use lifting::lift;
@@ -43,10 +43,11 @@ fn meet(
             due: at,
         };
     }
-    if !z.at_most(a.settings.capacity) {
+    if a.settings.capacity < z {
+        let outcome = Outcome::Passed(Pass::TooBig);
         return Untold {
-            outcome: Outcome::Passed(Pass::TooBig),
-            tally: with_pass(a, z, w),
+            outcome,
+            tally: counted(a, outcome, z, w),
             due: at,
         };
     }

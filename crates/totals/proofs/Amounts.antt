@@ -26,12 +26,9 @@ module _ {most hits requests part whole : ℕ} where
   pub amount_hit : Amount most hits requests part whole → total_of most hits part ≡ true
   amount_hit w = total most hits part w.hit_least w.hit_most
 
-  pub amount_part : Amount most hits requests part whole → leb part whole ≡ true
-  amount_part w = le-leb part whole w.hit_asked
-
-  pub amount_last : {r : Bool} → total_of most hits part ≡ true → leb part whole ≡ true → r ≡ total_of most requests whole → Exact (Amount most hits requests part whole) r
+  pub amount_last : {r : Bool} → total_of most hits part ≡ true → part ≤ whole → r ≡ total_of most requests whole → Exact (Amount most hits requests part whole) r
   amount_last h w e =
       let hit = total_parts most hits part h in
       answer_call e
-      (λ b. let asked = total_parts most requests whole b in record { hit_least = hit.0; hit_most = hit.1; hit_asked = leb-true part whole w; asked_least = asked.0; asked_most = asked.1 })
+      (λ b. let asked = total_parts most requests whole b in record { hit_least = hit.0; hit_most = hit.1; hit_asked = w; asked_least = asked.0; asked_most = asked.1 })
       (λ x. total most requests whole x.asked_least x.asked_most)

@@ -20,7 +20,7 @@ fn bytes_agree(a: Tally) -> bool
     if !a.hit_bytes.is_total_of(a.hits) {
         return false;
     }
-    if !a.hit_bytes.at_most(a.bytes_asked) {
+    if a.bytes_asked < a.hit_bytes {
         return false;
     }
     a.bytes_asked.is_total_of(a.requests)
@@ -35,7 +35,7 @@ fn cost_agrees(a: Tally) -> bool
     if !a.hit_cost.is_total_of(a.hits) {
         return false;
     }
-    if !a.hit_cost.at_most(a.cost_asked) {
+    if a.cost_asked < a.hit_cost {
         return false;
     }
     a.cost_asked.is_total_of(a.requests)
@@ -70,7 +70,7 @@ pub fn totals_agree(a: Tally) -> bool
     if !counts_agree(a) {
         return false;
     }
-    if !a.inflation.at_most(Key(Key::INFLATION_MOST)) {
+    if Key(Key::INFLATION_MOST) < a.inflation {
         return false;
     }
     if a.admitted < a.evicted {

@@ -3,7 +3,7 @@ use mathlib.Core.Path.{◌≡◌, refl, sym, ap, ◌∙◌}
 use mathlib.Core.Logic.{◌⊎◌, ⊎_elim}
 use mathlib.Core.Bool.{Bool, true, false}
 use mathlib.Core.List.{List, [], ◌∷◌, ◌++◌, map}
-use Prim.Native.Nat.{ℕ, suc, ◌+◌, ◌*◌, ◌≤◌, ◌<◌}
+use Prim.Native.Nat.{ℕ, suc, ◌+◌, ◌*◌, ◌/◌, ◌≤◌, ◌<◌}
 use native.Mathlib.Numerals.{add-one}
 use native.Mathlib.Omega.{arith}
 use native.Mathlib.Nat.{suc-mul}
@@ -12,8 +12,6 @@ use lib.ListN.{length, get_or, take}
 use lib.Seq.{take-suc}
 use Rattle.amounts.specs.Limits.{pick, lift, no_place}
 use Rattle.amounts.proofs.Values.{product_lift}
-use Rattle.large.specs.Large.{value_of, Normal, Is}
-use Rattle.large.specs.declared.Large.{Large}
 use Rattle.method.specs.Shelf.{Kept, Slot, none, kept, Shelf, weigh, sum, product}
 use Rattle.tables.specs.Tables.{Tables, tables, record_at, slot_of, shelf_of}
 use Rattle.tables.proofs.Shelves.{slot_none, slot_kept}
@@ -124,27 +122,27 @@ product_below {n} {place} {size} {cost} {freq} a f h ne e =
     let p : ℕ = get_or place f 0 in
     omega (arith, e, product_lift (get_or freq p 0) (get_or size p 0) (get_or cost p 0) (placed ne (a.valued f h)).1 (placed ne (a.seldom f h)))
 
--- a number in two words, to which the products are added file by file: each brings at most one lift more
-module _ (start : Large) (t : Tables) where
-  pub record Adding (f : ℕ) (w : Large) : Type 0 where
-    pub is : Is (value_of start + sum product (shelf_of f t)) w
+-- a number to which the products are added file by file: each brings at most one lift more
+module _ (start : ℕ) (t : Tables) where
+  pub record Adding (f w : ℕ) : Type 0 where
+    pub is : w ≡ start + sum product (shelf_of f t)
     pub small : sum product (shelf_of f t) ≤ f * lift
 
-  pub run_nobody : Normal start → Adding 0 start
-  run_nobody s = record { is = record { normal = s; value = omega (arith, sum_nobody product t) }; small = omega (arith, sum_nobody product t) }
+  pub run_nobody : Adding 0 start
+  run_nobody = record { is = omega (arith, sum_nobody product t); small = omega (arith, sum_nobody product t) }
 
-  module _ {f : ℕ} {w : Large} (s : Adding f w) where
+  module _ {f w : ℕ} (s : Adding f w) where
     -- its lifts are few: no more than it began with, and one for each file
-    pub run_few : Normal start → w.high ≤ start.high + f
-    run_few h = omega (arith, s.is.value, s.small)
+    pub run_few : w / lift ≤ start / lift + f
+    run_few = omega (arith, s.is, s.small)
 
     module _ (h : f < length t.place) where
       pub run_none : get_or t.place f 0 ≡ no_place → Adding (f + 1) w
       run_none e =
           let same : sum product (shelf_of f t) ≡ sum product (shelf_of (f + 1) t) = sum_none product t f h refl e refl in
-          record { is = record { normal = s.is.normal; value = omega (arith, s.is.value, same) }; small = omega (arith, s.small, same) }
+          record { is = omega (arith, s.is, same); small = omega (arith, s.small, same) }
 
-      pub run_some : {m : ℕ} {w' : Large} → (get_or t.place f 0 ≡ no_place → ⊥) → m ≡ product (record_at t (get_or t.place f 0)) → m < lift → Is (value_of w + m) w' → Adding (f + 1) w'
+      pub run_some : {m w' : ℕ} → (get_or t.place f 0 ≡ no_place → ⊥) → m ≡ product (record_at t (get_or t.place f 0)) → m < lift → w' ≡ w + m → Adding (f + 1) w'
       run_some {m} ne e l x =
           let more : sum product (shelf_of f t) + m ≡ sum product (shelf_of (f + 1) t) = sum_some product t f h refl ne (ap (λ (k : ℕ). sum product (shelf_of f t) + k) e) in
-          record { is = record { normal = x.normal; value = omega (arith, s.is.value, x.value, more) }; small = omega (arith, s.small, more) }
+          record { is = omega (arith, s.is, x, more); small = omega (arith, s.small, more) }

@@ -2,7 +2,7 @@
 use mathlib.Core.Path.{◌≡◌, refl, sym, ◌∙◌}
 use mathlib.Core.Logic.{inr, ⊎_elim}
 use mathlib.Core.Bool.{Bool, true, false}
-use Prim.Native.Nat.{ℕ, ◌+◌, ◌-◌, ◌*◌, ◌≤◌, ◌<◌}
+use Prim.Native.Nat.{ℕ, ◌+◌, ◌-◌, ◌*◌, ◌/◌, ◌≤◌, ◌<◌}
 use native.Mathlib.Omega.{arith}
 use lib.Dec.{eqb, leb}
 use lib.ListN.{get_or}
@@ -10,8 +10,6 @@ use borrow.Author.Tests.{eqb-true, eq-eqb, leb-true, le-leb}
 use Rattle.amounts.specs.Limits.{requests_most, lift, no_place}
 use Rattle.amounts.specs.Worth.{worth_most}
 use Rattle.amounts.specs.declared.settings.Settings.{Settings}
-use Rattle.large.specs.Large.{value_of, Is}
-use Rattle.large.specs.declared.Large.{Large}
 use Rattle.method.specs.Shelf.{Kept, Shelf, sum, product}
 use Rattle.method.specs.Method.{Policy, policy_of}
 use Rattle.method.specs.Promise.{Once, Fine}
@@ -56,25 +54,25 @@ module _ (s : Settings) (l n : ℕ) (t : Tables) (f : ℕ) (has : get_or t.place
 -- ---- the sums
 
 -- the largest worths of all requests together are few lifts
-pub worths_few : (n : ℕ) {most : Large} → n ≤ requests_most → Is (n * worth_most) most → most.high ≤ 4096
-worths_few n h o = omega (arith, h, o.value)
+pub worths_few : (n : ℕ) {most : ℕ} → n ≤ requests_most → most ≡ n * worth_most → most / lift ≤ 4096
+worths_few n h o = omega (arith, h, o)
 
-module _ (a : Tally) (s : Shelf) {most : Large} (o : Is (a.requests * worth_most) most) where
+module _ (a : Tally) (s : Shelf) {most : ℕ} (o : most ≡ a.requests * worth_most) where
   -- lifts beyond those of the bound are too many, whatever is beside them
-  pub balanced_lifts : most.high < a.lifts → Balanced a s → ⊥
-  balanced_lifts h b = omega (arith, h, o.value, o.normal, b.total)
+  pub balanced_lifts : most / lift < a.lifts → Balanced a s → ⊥
+  balanced_lifts h b = omega (arith, h, o, b.total)
 
   -- by the tests, the last of whole inflation and the products
-  pub balanced_last : {y : Sums} {whole w : Large} {b : Bool} → Summed s y → y.files ≡ a.files_kept → eqb y.bytes.0 a.bytes_kept.0 ≡ true
-      → leb a.bytes_kept.0 a.settings.capacity.0 ≡ true → y.freqs ≤ a.requests → Is (a.lifts * lift + a.inflation.0) whole
-      → Is (value_of whole + sum product s) w → b ≡ leb (value_of w) (value_of most) → Exact (Balanced a s) b
+  pub balanced_last : {y : Sums} {whole w : ℕ} {b : Bool} → Summed s y → y.files ≡ a.files_kept → y.bytes.0 ≡ a.bytes_kept.0
+      → a.bytes_kept.0 ≤ a.settings.capacity.0 → y.freqs ≤ a.requests → whole ≡ a.lifts * lift + a.inflation.0
+      → w ≡ whole + sum product s → b ≡ leb w most → Exact (Balanced a s) b
   balanced_last {y} {whole} {w} h f k c g l x e =
       answer_call e
       (λ z. record {
         files = sym h.files ∙ f;
-        bytes = sym h.bytes ∙ eqb-true y.bytes.0 a.bytes_kept.0 k;
-        fits = leb-true a.bytes_kept.0 a.settings.capacity.0 c;
+        bytes = sym h.bytes ∙ k;
+        fits = c;
         freqs = omega (arith, h.freqs);
-        total = omega (arith, leb-true (value_of w) (value_of most) z, x.value, l.value, o.value);
+        total = omega (arith, leb-true w most z, x, l, o);
       })
-      (λ b. le-leb (value_of w) (value_of most) (omega (arith, b.total, x.value, l.value, o.value)))
+      (λ b. le-leb w most (omega (arith, b.total, x, l, o)))

@@ -50,11 +50,11 @@ fn is_right(
     if requests <= stamp {
         return false;
     }
-    if !inflation.at_most(key) {
+    if key < inflation {
         return false;
     }
     let most = kept_product(size, cost, freq as u64);
-    key.minus(inflation).at_most(most)
+    key - inflation <= most
 }
 
 // Whether file f has no place, or one that points back at it and holds a record in range.

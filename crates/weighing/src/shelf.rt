@@ -20,21 +20,21 @@ fn sums_agree(a: Tally, place: &[u16], size: &[u32], cost: &[u16], freq: &[u32])
     if sums.files != a.files_kept {
         return false;
     }
-    if !sums.bytes.same(a.bytes_kept) {
+    if sums.bytes != a.bytes_kept {
         return false;
     }
-    if !a.bytes_kept.at_most(a.settings.capacity) {
+    if a.settings.capacity < a.bytes_kept {
         return false;
     }
     if a.requests < sums.freqs {
         return false;
     }
     let most = Large::worths(a.requests);
-    if most.high < a.lifts {
+    if most.lifts() < a.lifts {
         return false;
     }
     let whole = Large::whole(a.lifts, a.inflation);
-    add_products(whole, a.settings.catalogue, place, size, cost, freq).at_most(most)
+    add_products(whole, a.settings.catalogue, place, size, cost, freq) <= most
 }
 
 // Whether every file is as it should be, and so are the sums over them.

@@ -1,11 +1,10 @@
 // Sums over the files that have a place: those of the shelf that the tables stand for.
-ghost use Rattle.std.specs.Prelude.{◌≡◌, [], ◌+◌, ◌≤◌};
-ghost use Rattle.amounts.specs.Limits.{requests_most, frequency_most};
+ghost use Rattle.std.specs.Prelude.{◌≡◌, [], ◌+◌, ◌/◌, ◌≤◌};
+ghost use Rattle.amounts.specs.Limits.{requests_most, frequency_most, lift};
 ghost use Rattle.amounts.specs.Worth.{Valued, product_of};
 ghost use Rattle.method.specs.Shelf.{sum};
 ghost use Rattle.method.specs.Shelf as shelf;
 ghost use Rattle.tables.specs.Tables.{tables, shelf_of};
-ghost use Rattle.large.specs.Large.{value_of, Normal, Is};
 ghost use Rattle.weighing.specs.Weighing.{Summable, Weighable, Summed};
 
 use amounts::{Bytes, Catalogue, Cost, Key, Places, product};
@@ -32,8 +31,7 @@ pub(crate) fn sum_kept(catalogue: Catalogue, place: &[u16], size: &[u32], freq: 
         if *home != Places::NONE {
             let p = *home as usize;
             files += 1;
-            let more = Bytes(size[p] as u64);
-            bytes = bytes.plus(more);
+            bytes += Bytes(size[p] as u64);
             freqs += freq[p] as u64;
         }
     }
@@ -62,17 +60,16 @@ pub(crate) fn add_products(
     cost: &[u16],
     freq: &[u32],
 ) -> Large
-    requires normal { Normal start }
-    requires high_le_requests_most { start.high ≤ requests_most }
+    requires lifts_le_requests_most { start / lift ≤ requests_most }
     requires weighable { Weighable catalogue.0 place.now size.now cost.now freq.now }
-    ensures { Is (value_of start + sum shelf.product (shelf_of catalogue.0 (tables place.now [] size.now cost.now freq.now [] [] []))) result }
+    ensures { result ≡ start + sum shelf.product (shelf_of catalogue.0 (tables place.now [] size.now cost.now freq.now [] [] [])) }
 {
     let n = catalogue.count();
     let mut sum = start;
     for home in &place[..n] {
         if *home != Places::NONE {
             let p = *home as usize;
-            sum = sum.plus(kept_product(size[p], cost[p], freq[p] as u64));
+            sum += kept_product(size[p], cost[p], freq[p] as u64);
         }
     }
     sum

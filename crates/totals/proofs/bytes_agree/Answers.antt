@@ -1,4 +1,5 @@
 -- `totals::bytes_agree` meets its contract. Assumes nothing.
+use Rattle.std.proofs.Common.{rules}
 use Rattle.amounts.proofs.Tests.{told}
 use Rattle.tables.proofs.Answers.{answer_denied}
 use Rattle.totals.proofs.Amounts.{amount_hit, amount_last}
@@ -8,4 +9,4 @@ pub returns-then-not-is_total_of : goal.returns-then-not-is_total_of
 returns-then-not-is_total_of c = answer_denied c.is_total_of.ensures c.if-not-is_total_of.true amount_hit
 
 pub returns : goal.returns
-returns c = amount_last (told c.is_total_of.ensures c.if-not-is_total_of.false) (told c.at_most.ensures c.if-not-at_most.false) c.is_total_of-2.ensures
+returns c = amount_last (told c.is_total_of.ensures c.if-not-is_total_of.false) (search rules) c.is_total_of-2.ensures

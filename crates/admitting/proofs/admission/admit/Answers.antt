@@ -14,28 +14,28 @@ limit_is : (a : Tally) (size cost : ℕ) {limit key worth : ℕ} → limit ≡ l
     → limit ≡ limit_of (policy_in a.settings) (a.inflation.0 + product_of 1 size cost)
 limit_is a size cost is keyed valued = is ∙ ap (limit_of (policy_in a.settings)) (keyed ∙ ap (λ (v : ℕ). a.inflation.0 + v) valued)
 
-pub plus-k-requires : goal.plus-k-requires
-plus-k-requires c = omega (arith, c.product.ensures, key_fits c.requires)
+pub add-k-requires : goal.add-k-requires
+add-k-requires c = omega (arith, c.product.ensures, key_fits c.requires)
 
 pub make_room-room-requires : goal.make_room-room-requires
 make_room-room-requires c = roomless c.requires
 
 pub put_back-requires : goal.put_back-requires
 put_back-requires c =
-    let most = limit_is c.args.a c.args.z.0 c.args.w.0 c.limit-most.ensures c.plus-k.ensures c.product.ensures in
+    let most = limit_is c.args.a c.args.z.0 c.args.w.0 c.limit-most.ensures c.add-k.ensures c.product.ensures in
     apiece c.requires most c.make_room-room.ensures c.if-room.true
 
 pub returns-then-room : goal.returns-then-room
 returns-then-room c =
-    let most = limit_is c.args.a c.args.z.0 c.args.w.0 c.limit-most.ensures c.plus-k.ensures c.product.ensures in
-    lows c.requires most c.make_room-room.ensures c.if-room.true c.put_back.ensures c.with_pass.ensures
+    let most = limit_is c.args.a c.args.z.0 c.args.w.0 c.limit-most.ensures c.add-k.ensures c.product.ensures in
+    lows c.requires most c.make_room-room.ensures c.if-room.true c.put_back.ensures c.counted.ensures
 
 pub enter-requires : goal.enter-requires
 enter-requires c =
-    let most = limit_is c.args.a c.args.z.0 c.args.w.0 c.limit-most.ensures c.plus-k.ensures c.product.ensures in
+    let most = limit_is c.args.a c.args.z.0 c.args.w.0 c.limit-most.ensures c.add-k.ensures c.product.ensures in
     enterable c.requires most c.make_room-room.ensures c.if-room.false
 
 pub returns : goal.returns
 returns c =
-    let most = limit_is c.args.a c.args.z.0 c.args.w.0 c.limit-most.ensures c.plus-k.ensures c.product.ensures in
+    let most = limit_is c.args.a c.args.z.0 c.args.w.0 c.limit-most.ensures c.add-k.ensures c.product.ensures in
     admitted c.requires most c.make_room-room.ensures c.if-room.false c.enter.ensures

@@ -28,15 +28,15 @@ returns-then-not-long_enough c =
     ∙ (λ i. long_enough (c.count-places.ensures i) (c.count-catalogue.ensures i) x.place x.file x.size x.cost x.freq x.key x.stamp x.queue) in
     simp (unit_passes, range_passes, told lengths c.if-not-long_enough.true)
 
-pub returns-then-same : goal.returns-then-same
+pub returns-then-eq : goal.returns-then-eq
 unfolding settled
-returns-then-same c =
+returns-then-eq c =
     let unit_passes : is_unit c.args.unit.0 ≡ true = told c.in_range.ensures c.if-not-in_range.false in
     let range_passes : in_range c.args.a.settings ≡ true = told c.in_range-2.ensures c.if-not-in_range-2.false in
     let lengths : let x = c.args in c.long_enough.result ≡ long_enough x.a.settings.places.0 x.a.settings.catalogue.0 x.place x.file x.size x.cost x.freq x.key x.stamp x.queue = let x = c.args in
     c.long_enough.ensures
     ∙ (λ i. long_enough (c.count-places.ensures i) (c.count-catalogue.ensures i) x.place x.file x.size x.cost x.freq x.key x.stamp x.queue) in
-    simp (unit_passes, range_passes, told lengths c.if-not-long_enough.false, told c.same.ensures c.if-same.true)
+    simp (unit_passes, range_passes, told lengths c.if-not-long_enough.false, told c.eq.ensures c.if-eq.true)
 
 pub returns : goal.returns
 unfolding settled
@@ -46,4 +46,4 @@ returns c =
     let lengths : let x = c.args in c.long_enough.result ≡ long_enough x.a.settings.places.0 x.a.settings.catalogue.0 x.place x.file x.size x.cost x.freq x.key x.stamp x.queue = let x = c.args in
     c.long_enough.ensures
     ∙ (λ i. long_enough (c.count-places.ensures i) (c.count-catalogue.ensures i) x.place x.file x.size x.cost x.freq x.key x.stamp x.queue) in
-    simp (unit_passes, range_passes, told lengths c.if-not-long_enough.false, told c.same.ensures c.if-same.false)
+    simp (unit_passes, range_passes, told lengths c.if-not-long_enough.false, told c.eq.ensures c.if-eq.false)

@@ -1,6 +1,7 @@
 -- `weighing::files::is_right` meets its contract. Assumes nothing.
 use native.Mathlib.Omega.{arith}
-use borrow.Author.Tests.{leb-true}
+use lib.Dec.{leb}
+use Rattle.std.proofs.Common.{rules, ◌≡◌, ◌≤◌}
 use Rattle.amounts.specs.Limits.{size_most}
 use Rattle.amounts.specs.Worth.{Valued}
 use Rattle.amounts.proofs.Tests.{one_to_lem, told, in_one_to}
@@ -22,6 +23,7 @@ pub returns : goal.returns
 returns c =
     let size = one_to_lem size_most _ (told c.is_size.ensures c.if-not-is_size.false) in
     let valued : Valued c.args.size c.args.cost = record { size_least = size.0; size_at_most = size.1; cost_least = omega arith; cost_at_most = omega arith } in
+    let least : c.args.inflation.0 ≤ c.args.key.0 = search rules in
+    let within : c.le.result ≡ leb c.sub.result.0 c.kept_product-most.result.0 = search rules in
     right_last (record { valued = valued; freq = omega arith; seldom = omega arith; once = passed c.is_once.ensures c.if-not-is_once.false })
-    (omega arith) (leb-true _ _ (told c.at_most.ensures c.if-not-at_most.false))
-    c.minus.ensures c.kept_product-most.ensures c.at_most-2.ensures
+    (omega arith) least c.sub.ensures c.kept_product-most.ensures within

@@ -1,2 +1,0 @@
--- A tally whose sums are known one by one.
-pub mod Sums
