@@ -1,5 +1,6 @@
 -- The lent tables (Tables), the tally (Tally), a fresh start (Start), when both are sound (Sound); what a test of it promises (Exact); sums for counting places (Below).
 pub mod Tables
+pub mod Lent
 pub mod Tally
 pub mod Start
 pub mod Exact

@@ -2,9 +2,13 @@
 #![tactic(auto)]
 
 mod length;
+mod records;
+mod shown;
 mod start;
 mod tally;
 
 pub use length::long_enough;
+pub use records::Records;
+pub use shown::Tables;
 pub use start::{Started, fresh};
 pub use tally::Tally;

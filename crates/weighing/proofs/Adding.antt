@@ -1,22 +1,19 @@
 -- Sums over the shelf, read by the places of its files: one file more, the lists that a sum does not look at, and bounds. Assumes nothing.
 use mathlib.Core.Path.{◌≡◌, refl, sym, ap, ◌∙◌}
 use mathlib.Core.Logic.{◌⊎◌, ⊎_elim}
-use mathlib.Core.Bool.{Bool, true, false}
 use mathlib.Core.List.{List, [], ◌∷◌, ◌++◌, map}
 use Prim.Native.Nat.{ℕ, suc, ◌+◌, ◌*◌, ◌/◌, ◌≤◌, ◌<◌}
 use native.Mathlib.Numerals.{add-one}
 use native.Mathlib.Omega.{arith}
 use native.Mathlib.Nat.{suc-mul}
-use lib.Dec.{eqb}
 use lib.ListN.{length, get_or, take}
 use lib.Seq.{take-suc}
-use Rattle.amounts.specs.Limits.{pick, lift, no_place}
+use Rattle.amounts.specs.Limits.{lift, no_place}
 use Rattle.amounts.proofs.Values.{product_lift}
-use Rattle.method.specs.Shelf.{Kept, Slot, none, kept, Shelf, weigh, sum, product}
-use Rattle.tables.specs.Tables.{Tables, tables, record_at, slot_of, shelf_of}
+use Rattle.method.specs.Shelf.{Kept, Slot, Shelf, weigh, sum, product}
+use Rattle.tables.specs.Tables.{Tables, record_at, slot_of, shelf_of}
 use Rattle.tables.proofs.Shelves.{slot_none, slot_kept}
-use Rattle.weighing.specs.Weighing.{Weighable, Summed}
-use Rattle.weighing.specs.declared.sums.Sums.{Sums}
+use Rattle.weighing.specs.Weighing.{Weighable}
 
 -- the largest 32-bit number, which an entry of a table by place can have
 abbrev pub entry_most : ℕ
@@ -59,26 +56,6 @@ module _ (f : Kept → ℕ) (t : Tables) where
     pub sum_some : {v w : ℕ} → v ≡ sum f (shelf_of n t) → (get_or t.place n 0 ≡ no_place → ⊥) → w ≡ v + f (record_at t (get_or t.place n 0)) → w ≡ sum f (shelf_of (n + 1) t)
     sum_some a ne b = rw add-one (omega (arith, more_some ne))
 
--- ---- a sum looks at the lists that its f reads, and at no other
-
-module _ (f g : Kept → ℕ) (t u : Tables) (like : (p : ℕ) → f (record_at t p) ≡ g (record_at u p)) where
-  weigh_same : (p : ℕ) → weigh f (slot_of t p) ≡ weigh g (slot_of u p)
-  unfolding slot_of
-  weigh_same p = go (eqb p no_place)
-    where
-      go : (b : Bool) → weigh f (pick b none (kept (record_at t p))) ≡ weigh g (pick b none (kept (record_at u p)))
-      go true = refl
-      go false = like p
-
-  sum_map : (l : List ℕ) → sum f (map (slot_of t) l) ≡ sum g (map (slot_of u) l)
-  unfolding sum
-  sum_map [] = refl
-  sum_map (p ∷ l) = omega (arith, weigh_same p, sum_map l)
-
-  pub sum_same : (n : ℕ) → t.place ≡ u.place → sum f (shelf_of n t) ≡ sum g (shelf_of n u)
-  unfolding shelf_of
-  sum_same n e = sum_map (take n t.place) ∙ ap (λ (l : List ℕ). sum g (map (slot_of u) (take n l))) e
-
 -- ---- a sum file by file, each adding at most so much
 
 module _ (g : Kept → ℕ) (most : ℕ) (t : Tables) where
@@ -98,29 +75,16 @@ module _ (g : Kept → ℕ) (most : ℕ) (t : Tables) where
 
 -- ---- the products
 
-module _ (place size cost freq : List ℕ) where
-  -- the tables that the sum of the products reads
-  abbrev pub weighed : Tables
-  weighed = tables place [] size cost freq [] [] []
-
-  -- the other sums do not read the costs
-  pub summed_weighed : (n : ℕ) {r : Sums} → Summed (shelf_of n (tables place [] size [] freq [] [] [])) r → Summed (shelf_of n weighed) r
-  summed_weighed n h = record {
-    files = h.files ∙ sum_same (λ k. 1) (λ k. 1) _ _ (λ p. refl) n refl;
-    bytes = h.bytes ∙ sum_same (λ k. k.size) (λ k. k.size) _ _ (λ p. refl) n refl;
-    freqs = h.freqs ∙ sum_same (λ k. k.freq) (λ k. k.freq) _ _ (λ p. refl) n refl;
-  }
-
 -- where a file has a place, what is said of that place
 pub placed : {P : Type 0} {p : ℕ} → (p ≡ no_place → ⊥) → (p ≡ no_place) ⊎ P → P
 placed ne x = ⊎_elim (λ e. absurd (ne e)) (λ h. h) x
 
 -- its product is below one lift
-pub product_below : {n : ℕ} {place size cost freq : List ℕ} → Weighable n place size cost freq → (f : ℕ) → f < n → (get_or place f 0 ≡ no_place → ⊥) → {m : ℕ}
-    → m ≡ product (record_at (weighed place size cost freq) (get_or place f 0)) → m < lift
-product_below {n} {place} {size} {cost} {freq} a f h ne e =
-    let p : ℕ = get_or place f 0 in
-    omega (arith, e, product_lift (get_or freq p 0) (get_or size p 0) (get_or cost p 0) (placed ne (a.valued f h)).1 (placed ne (a.seldom f h)))
+pub product_below : {n : ℕ} (t : Tables) → Weighable n t → (f : ℕ) → f < n → (get_or t.place f 0 ≡ no_place → ⊥) → {m : ℕ}
+    → m ≡ product (record_at t (get_or t.place f 0)) → m < lift
+product_below {n} t a f h ne e =
+    let p : ℕ = get_or t.place f 0 in
+    omega (arith, e, product_lift (get_or t.freq p 0) (get_or t.size p 0) (get_or t.cost p 0) (placed ne (a.valued f h)).1 (placed ne (a.seldom f h)))
 
 -- a number to which the products are added file by file: each brings at most one lift more
 module _ (start : ℕ) (t : Tables) where

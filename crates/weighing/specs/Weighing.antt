@@ -38,17 +38,13 @@ AllLawful s l n t = (f : ℕ) → f < s.catalogue.0 → Lawful s l n t f
 
 -- ---- The sums over the shelf, which a pass reads by the places of its files
 
--- what the sums ask: each of n files has no place, or one that the tables by place have
-pub record Summable (n : ℕ) (place size freq : List ℕ) : Type 0 where
-  pub long : n ≤ length place
+-- what the sums ask: each of n files has no place, or one that the tables by place have, with a size and a cost in force there and a frequency within its limit, so that each product is below one lift (document 02, ticket 5)
+pub record Weighable (n : ℕ) (t : Tables) : Type 0 where
+  pub long : n ≤ length t.place
   pub few : n ≤ catalogue_most
-  pub inside : (f : ℕ) → f < n → (get_or place f 0 ≡ no_place) ⊎ ((get_or place f 0 < length size) × (get_or place f 0 < length freq))
-
--- and the sum of the products besides: a size and a cost in force there, and a frequency within its limit, so that each product is below one lift (document 02, ticket 5)
-pub record Weighable (n : ℕ) (place size cost freq : List ℕ) : Type 0 where
-  pub summable : Summable n place size freq
-  pub valued : (f : ℕ) → f < n → (get_or place f 0 ≡ no_place) ⊎ ((get_or place f 0 < length cost) × Valued (get_or size (get_or place f 0) 0) (get_or cost (get_or place f 0) 0))
-  pub seldom : (f : ℕ) → f < n → (get_or place f 0 ≡ no_place) ⊎ (get_or freq (get_or place f 0) 0 ≤ frequency_most)
+  pub inside : (f : ℕ) → f < n → (get_or t.place f 0 ≡ no_place) ⊎ ((get_or t.place f 0 < length t.size) × (get_or t.place f 0 < length t.freq))
+  pub valued : (f : ℕ) → f < n → (get_or t.place f 0 ≡ no_place) ⊎ ((get_or t.place f 0 < length t.cost) × Valued (get_or t.size (get_or t.place f 0) 0) (get_or t.cost (get_or t.place f 0) 0))
+  pub seldom : (f : ℕ) → f < n → (get_or t.place f 0 ≡ no_place) ⊎ (get_or t.freq (get_or t.place f 0) 0 ≤ frequency_most)
 
 -- the sums that fit a word whatever the tables hold
 pub record Summed (s : Shelf) (r : Sums) : Type 0 where

@@ -1,13 +1,14 @@
 // The files: each has no place, or one that points back at it and holds a record in range.
-ghost use Rattle.std.specs.Prelude.{[], ◌<◌};
+ghost use Rattle.std.specs.Prelude.{◌<◌};
 ghost use Rattle.method.specs.Method.{policy_of};
 ghost use Rattle.method.specs.Promise.{Once};
-ghost use Rattle.tables.specs.Tables.{tables};
+ghost use Rattle.tables.specs.Lent.{shown};
 ghost use Rattle.tables.specs.Exact.{Exact};
 ghost use Rattle.weighing.specs.Weighing.{Covered, Right, Lawful, AllLawful};
 
 use crate::sums::kept_product;
-use amounts::{Bytes, Key, Places, Policy, Settings};
+use amounts::{Bytes, Key, Places, Policy};
+use tables::{Tables, Tally};
 
 // Whether a frequency is exactly 1 where the policy counts none.
 fn is_once(policy: Policy, freq: u32) -> bool
@@ -58,65 +59,38 @@ fn is_right(
 }
 
 // Whether file f has no place, or one that points back at it and holds a record in range.
-fn is_lawful(
-    settings: Settings,
-    inflation: Key,
-    requests: u64,
-    f: usize,
-    place: &[u16],
-    file: &[u16],
-    size: &[u32],
-    cost: &[u16],
-    freq: &[u32],
-    key: &[u64],
-    stamp: &[u64],
-) -> bool
-    requires f_lt_catalogue { f < settings.catalogue.0 }
-    requires covered { Covered settings.places.0 settings.catalogue.0 (tables place.now file.now size.now cost.now freq.now key.now stamp.now []) }
-    ensures { Exact (Lawful settings inflation.0 requests (tables place.now file.now size.now cost.now freq.now key.now stamp.now []) f) result }
+fn is_lawful(a: Tally, t: Tables, f: usize) -> bool
+    requires f_lt_catalogue { f < a.settings.catalogue.0 }
+    requires covered { Covered a.settings.places.0 a.settings.catalogue.0 (shown t) }
+    ensures { Exact (Lawful a.settings a.inflation.0 a.requests (shown t.entry) f) result }
 {
-    let p = place[f] as usize;
+    let p = t.place[f] as usize;
     if p == Places::NONE as usize {
         return true;
     }
-    if settings.places.count() <= p {
+    if a.settings.places.count() <= p {
         return false;
     }
-    if file[p] as usize != f {
+    if t.file[p] as usize != f {
         return false;
     }
     is_right(
-        settings.policy,
-        inflation,
-        requests,
-        size[p],
-        cost[p],
-        freq[p],
-        Key(key[p]),
-        stamp[p],
+        a.settings.policy,
+        a.inflation,
+        a.requests,
+        t.size[p],
+        t.cost[p],
+        t.freq[p],
+        Key(t.key[p]),
+        t.stamp[p],
     )
 }
 
 // Whether every file of the catalogue is as it should be.
-pub(crate) fn all_lawful(
-    settings: Settings,
-    inflation: Key,
-    requests: u64,
-    place: &[u16],
-    file: &[u16],
-    size: &[u32],
-    cost: &[u16],
-    freq: &[u32],
-    key: &[u64],
-    stamp: &[u64],
-) -> bool
-    requires { Covered settings.places.0 settings.catalogue.0 (tables place.now file.now size.now cost.now freq.now key.now stamp.now []) }
-    ensures { Exact (AllLawful settings inflation.0 requests (tables place.now file.now size.now cost.now freq.now key.now stamp.now [])) result }
+pub(crate) fn all_lawful(a: Tally, t: Tables) -> bool
+    requires { Covered a.settings.places.0 a.settings.catalogue.0 (shown t) }
+    ensures { Exact (AllLawful a.settings a.inflation.0 a.requests (shown t.entry)) result }
 {
-    let catalogue = settings.catalogue.count();
-    (0..catalogue).all(|f| {
-        is_lawful(
-            settings, inflation, requests, f, place, file, size, cost, freq, key, stamp,
-        )
-    })
+    let catalogue = a.settings.catalogue.count();
+    (0..catalogue).all(|f| is_lawful(a, t, f))
 }

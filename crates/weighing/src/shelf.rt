@@ -1,22 +1,23 @@
 // The shelf that the tables stand for: its files and its sums against the tally.
-ghost use Rattle.std.specs.Prelude.{[], ◌≤◌};
+ghost use Rattle.std.specs.Prelude.{◌≤◌};
 ghost use Rattle.amounts.specs.Limits.{requests_most};
-ghost use Rattle.tables.specs.Tables.{tables, shelf_of};
+ghost use Rattle.tables.specs.Tables.{shelf_of};
+ghost use Rattle.tables.specs.Lent.{shown};
 ghost use Rattle.tables.specs.Exact.{Exact};
 ghost use Rattle.weighing.specs.Weighing.{Weighable, Balanced, Shelvable, Filed};
 
 use crate::files::all_lawful;
 use crate::sums::{add_products, sum_kept};
 use large::Large;
-use tables::Tally;
+use tables::{Tables, Tally};
 
 // Whether the sums over the files that have a place are those of the tally and within their bounds.
-fn sums_agree(a: Tally, place: &[u16], size: &[u32], cost: &[u16], freq: &[u32]) -> bool
-    requires weighable { Weighable a.settings.catalogue.0 place.now size.now cost.now freq.now }
+fn sums_agree(a: Tally, t: Tables) -> bool
+    requires weighable { Weighable a.settings.catalogue.0 (shown t) }
     requires requests_le_requests_most { a.requests ≤ requests_most }
-    ensures { Exact (Balanced a (shelf_of a.settings.catalogue.0 (tables place.now [] size.now cost.now freq.now [] [] []))) result }
+    ensures { Exact (Balanced a (shelf_of a.settings.catalogue.0 (shown t.entry))) result }
 {
-    let sums = sum_kept(a.settings.catalogue, place, size, freq);
+    let sums = sum_kept(t, a.settings.catalogue);
     if sums.files != a.files_kept {
         return false;
     }
@@ -34,36 +35,13 @@ fn sums_agree(a: Tally, place: &[u16], size: &[u32], cost: &[u16], freq: &[u32])
         return false;
     }
     let whole = Large::whole(a.lifts, a.inflation);
-    add_products(whole, a.settings.catalogue, place, size, cost, freq) <= most
+    add_products(t, a.settings.catalogue, whole) <= most
 }
 
 // Whether every file is as it should be, and so are the sums over them.
-pub fn shelf_agrees(
-    a: Tally,
-    place: &[u16],
-    file: &[u16],
-    size: &[u32],
-    cost: &[u16],
-    freq: &[u32],
-    key: &[u64],
-    stamp: &[u64],
-) -> bool
-    requires { Shelvable a (tables place.now file.now size.now cost.now freq.now key.now stamp.now []) }
-    ensures { Exact (Filed a (tables place.now file.now size.now cost.now freq.now key.now stamp.now [])) result }
+pub fn shelf_agrees(a: Tally, t: Tables) -> bool
+    requires { Shelvable a (shown t) }
+    ensures { Exact (Filed a (shown t.entry)) result }
 {
-    if !all_lawful(
-        a.settings,
-        a.inflation,
-        a.requests,
-        place,
-        file,
-        size,
-        cost,
-        freq,
-        key,
-        stamp,
-    ) {
-        return false;
-    }
-    sums_agree(a, place, size, cost, freq)
+    all_lawful(a, t) && sums_agree(a, t)
 }

@@ -1,14 +1,16 @@
 // Sums over the files that have a place: those of the shelf that the tables stand for.
-ghost use Rattle.std.specs.Prelude.{◌≡◌, [], ◌+◌, ◌/◌, ◌≤◌};
+ghost use Rattle.std.specs.Prelude.{◌≡◌, ◌+◌, ◌/◌, ◌≤◌};
 ghost use Rattle.amounts.specs.Limits.{requests_most, frequency_most, lift};
 ghost use Rattle.amounts.specs.Worth.{Valued, product_of};
 ghost use Rattle.method.specs.Shelf.{sum};
 ghost use Rattle.method.specs.Shelf as shelf;
-ghost use Rattle.tables.specs.Tables.{tables, shelf_of};
-ghost use Rattle.weighing.specs.Weighing.{Summable, Weighable, Summed};
+ghost use Rattle.tables.specs.Tables.{shelf_of};
+ghost use Rattle.tables.specs.Lent.{shown};
+ghost use Rattle.weighing.specs.Weighing.{Weighable, Summed};
 
 use amounts::{Bytes, Catalogue, Cost, Key, Places, product};
 use large::Large;
+use tables::Tables;
 
 // How many files are kept, their sizes and their frequencies together.
 #[derive(Clone, Copy)]
@@ -19,20 +21,20 @@ pub(crate) struct Sums {
 }
 
 // The sums of the files that have a place.
-pub(crate) fn sum_kept(catalogue: Catalogue, place: &[u16], size: &[u32], freq: &[u32]) -> Sums
-    requires { Summable catalogue.0 place.now size.now freq.now }
-    ensures { Summed (shelf_of catalogue.0 (tables place.now [] size.now [] freq.now [] [] [])) result }
+pub(crate) fn sum_kept(t: Tables, catalogue: Catalogue) -> Sums
+    requires { Weighable catalogue.0 (shown t) }
+    ensures { Summed (shelf_of catalogue.0 (shown t.entry)) result }
 {
     let n = catalogue.count();
     let mut files = 0;
     let mut bytes = Bytes(0);
     let mut freqs = 0;
-    for home in &place[..n] {
+    for home in &t.place[..n] {
         if *home != Places::NONE {
             let p = *home as usize;
             files += 1;
-            bytes += Bytes(size[p] as u64);
-            freqs += freq[p] as u64;
+            bytes += Bytes(t.size[p] as u64);
+            freqs += t.freq[p] as u64;
         }
     }
     Sums {
@@ -52,24 +54,17 @@ pub(crate) fn kept_product(size: u32, cost: u16, freq: u64) -> Key
 }
 
 // The products of the files together, added to a number: each is below one lift.
-pub(crate) fn add_products(
-    start: Large,
-    catalogue: Catalogue,
-    place: &[u16],
-    size: &[u32],
-    cost: &[u16],
-    freq: &[u32],
-) -> Large
+pub(crate) fn add_products(t: Tables, catalogue: Catalogue, start: Large) -> Large
     requires lifts_le_requests_most { start / lift ≤ requests_most }
-    requires weighable { Weighable catalogue.0 place.now size.now cost.now freq.now }
-    ensures { result ≡ start + sum shelf.product (shelf_of catalogue.0 (tables place.now [] size.now cost.now freq.now [] [] [])) }
+    requires weighable { Weighable catalogue.0 (shown t) }
+    ensures { result ≡ start + sum shelf.product (shelf_of catalogue.0 (shown t.entry)) }
 {
     let n = catalogue.count();
     let mut sum = start;
-    for home in &place[..n] {
+    for home in &t.place[..n] {
         if *home != Places::NONE {
             let p = *home as usize;
-            sum += kept_product(size[p], cost[p], freq[p] as u64);
+            sum += kept_product(t.size[p], t.cost[p], t.freq[p] as u64);
         }
     }
     sum

@@ -5,8 +5,8 @@ use native.Mathlib.Omega.{arith}
 use lib.ListN.{length, get_or, take, length-take}
 use lib.Seq.{get_or-take}
 use Rattle.amounts.specs.declared.bytes.Bytes.{Bytes}
-use Rattle.weighing.proofs.Adding.{to_nobody, to_none, to_some}
-use Rattle.weighing.proofs.sums.sum_kept.Invariants.{plain}
+use Rattle.weighing.proofs.Adding.{placed, to_nobody, to_none, to_some}
+use Rattle.tables.specs.Lent.{shown}
 use Rattle.weighing.proofs.sums.sum_kept.Goals as goal
 use Rattle.weighing.proofs.sums.sum_kept.Goals.{then-home, else-home}
 
@@ -18,17 +18,19 @@ pub loop-home-preserved : goal.loop-home-preserved
 loop-home-preserved c =
     let loop = c.loop-home in
     let n : ℕ = c.count-n.result in
-    let inside : loop.home-index < n = omega (arith, length-take n c.args.place.now, c.loop-home-test.true) in
-    let t = plain c.args.place.now c.args.size.now c.args.freq.now in
+    let inside : loop.home-index < n = omega (arith, length-take n c.args.t.place.now, c.loop-home-test.true) in
+    let t = shown c.args.t in
     let l : loop.home-index < length t.place = omega (arith, c.requires.long, c.count-n.ensures, inside) in
     let here : get_or (take n t.place) loop.home-index 0 ≡ get_or t.place loop.home-index 0 = get_or-take n t.place loop.home-index 0 inside in
-    let p : ℕ = get_or t.place loop.home-index 0 in
+    let known : loop.home-index < c.args.catalogue.0 = omega (arith, c.count-n.ensures, inside) in
     elim c.if-home.branch [
       | then-home w ↦
-          let some = rw here at w.if-home.true in (
+          let some = rw here at w.if-home.true in
+          let valued = (placed some (c.requires.valued _ known)).1 in
+          let seldom = placed some (c.requires.seldom _ known) in (
             to_some _ _ t loop.invariant.0 l some (omega arith) w.files-is,
-            to_some _ _ t loop.invariant.1 l some (omega (arith, c.type_inv.size p)) (ap (λ (b : Bytes). b.0) w.bytes-is ∙ rw here at w.plus-bytes.ensures),
-            to_some _ _ t loop.invariant.2 l some (omega (arith, c.type_inv.freq p)) (rw here at w.freqs-is),
+            to_some _ _ t loop.invariant.1 l some (omega (arith, valued.size_at_most)) (ap (λ (b : Bytes). b.0) w.bytes-is ∙ rw here at w.add_assign.ensures.after),
+            to_some _ _ t loop.invariant.2 l some (omega (arith, seldom)) (rw here at w.freqs-is),
           )
       | else-home w ↦
           let none = rw here at w.if-home.false in (
