@@ -1,5 +1,4 @@
 -- The laws behind the passes of the judge.
-pub mod Parts
 pub mod Entering
 pub mod Stacking
 pub mod Stamping

@@ -1,8 +1,8 @@
 -- The verdict: each pass decides a part of soundness, and together they are all of it. Assumes nothing.
-use mathlib.Core.Path.{◌≡◌, refl, sym, ap, ◌∙◌, subst}
+use mathlib.Core.Path.{◌≡◌, sym, ap, ◌∙◌, subst}
 use mathlib.Core.Logic.{inl, inr, ⊎_elim}
 use mathlib.Core.Bool.{Bool, false, true≢false}
-use mathlib.Core.List.{List, []}
+use mathlib.Core.List.{List}
 use Prim.Native.Nat.{ℕ, ◌*◌, ◌≤◌, ◌<◌}
 use native.Mathlib.Omega.{arith}
 use lib.ListN.{length, get_or}
@@ -32,7 +32,6 @@ use Rattle.judge.specs.Judge.{Lent}
 use Rattle.judge.specs.Passes.{Indexable, Index, noted, Stackable, Used, Own, Stamped}
 use Rattle.judge.proofs.Stacking.{noted_none, noted_some}
 use Rattle.judge.proofs.Stamping.{own_place}
-use Rattle.judge.proofs.Parts.{occupied_as, entered, requeued}
 
 -- a file's place is occupied where it points back
 at_occupied : {s : Settings} {t : Tables} {f p : ℕ} → At s t f p → Occupied s t p
@@ -206,20 +205,20 @@ module _ (a : Tally) (t : Tables) (entry free : List ℕ) (j : Lent a t entry fr
   places_at_most : a.settings.places.0 ≤ places_most
   places_at_most = (bounded a.settings j.range).places.1
 
-  pub indexable : a.files_kept ≤ a.settings.places.0 → Indexable a.settings a.files_kept (entered t) entry
+  pub indexable : a.files_kept ≤ a.settings.places.0 → Indexable a.settings a.files_kept t entry
   indexable few = record { few = few; most = places_at_most; place_long = j.long.place; file_long = j.long.file; queue_long = j.long.queue; entry_long = j.entry_long }
 
-  pub shelvable : Numbers a → Shelvable a (requeued t [])
+  pub shelvable : Numbers a → Shelvable a t
   shelvable num = record { range = j.range; long = record { queue = t.queue; long = j.long }; few = num.few }
 
   module _ (few : a.files_kept ≤ a.settings.places.0) (entry' : List ℕ) (x : Index a.settings a.files_kept t entry') where
-    pub stackable : length entry' ≡ length entry → Stackable a.settings (requeued t []) entry' free
+    pub stackable : length entry' ≡ length entry → Stackable a.settings t entry' free
     stackable e = record {
       long = record { queue = t.queue; long = j.long };
       most = places_at_most;
       entry_long = omega (arith, j.entry_long);
       free_long = j.free_long;
-      occupied = λ p l ne. ⊎_elim (λ z. absurd (ne z)) (λ y. occupied_as refl refl (subst (Occupied a.settings t) y.1 (x.entries (get_or entry' p 0) y.0))) (x.notes p l);
+      occupied = λ p l ne. ⊎_elim (λ z. absurd (ne z)) (λ y. subst (Occupied a.settings t) y.1 (x.entries (get_or entry' p 0) y.0)) (x.notes p l);
     }
 
     pub readable : (keys stamps : List ℕ) → a.settings.places.0 ≤ length keys → a.settings.places.0 ≤ length stamps → Readable t.queue keys stamps a.files_kept

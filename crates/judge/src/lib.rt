@@ -5,7 +5,7 @@ mod entries;
 mod places;
 mod stamps;
 
-ghost use Rattle.tables.specs.Tables.{tables};
+ghost use Rattle.tables.specs.Lent.{shown};
 ghost use Rattle.tables.specs.Sound.{Verdict};
 ghost use Rattle.judge.specs.Judge.{Lent};
 
@@ -13,28 +13,16 @@ use crate::entries::{index_entries, rest_zero};
 use crate::places::stack_unused;
 use crate::stamps::stamps_own;
 use queue::is_ordered;
-use tables::Tally;
+use tables::{Tables, Tally};
 use totals::totals_agree;
 use weighing::shelf_agrees;
 
 // Whether the tally and the tables are sound.
 // Where they are, the lists of the call are made ready: which queue entry holds a place, and the stack of free places.
 // Where they are not, what these lists hold is not promised: a call that is refused reads them no more.
-pub fn is_sound(
-    a: Tally,
-    place: &[u16],
-    file: &[u16],
-    size: &[u32],
-    cost: &[u16],
-    freq: &[u32],
-    key: &[u64],
-    stamp: &[u64],
-    queue: &[u16],
-    entry: &mut [u16],
-    free: &mut [u16],
-) -> bool
-    requires { Lent a (tables place.now file.now size.now cost.now freq.now key.now stamp.now queue.now) entry.old free.old }
-    ensures { Verdict a (tables place.now file.now size.now cost.now freq.now key.now stamp.now queue.now) entry.old entry.new free.old free.new result }
+pub fn is_sound(a: Tally, t: Tables, entry: &mut [u16], free: &mut [u16]) -> bool
+    requires { Lent a (shown t) entry.old free.old }
+    ensures { Verdict a (shown t.entry) entry.old entry.new free.old free.new result }
 {
     if !totals_agree(a) {
         return false;
@@ -43,22 +31,20 @@ pub fn is_sound(
     if a.settings.places.count() < n {
         return false;
     }
-    if !rest_zero(a.settings, n, queue) {
+    if !rest_zero(t, a.settings, n) {
         return false;
     }
-    if !shelf_agrees(a, place, file, size, cost, freq, key, stamp) {
+    if !shelf_agrees(a, t) {
         return false;
     }
-    if !index_entries(a.settings, n, place, file, queue, entry) {
+    if !index_entries(t, a.settings, n, entry) {
         return false;
     }
-    if !stack_unused(
-        a.settings, place, file, size, cost, freq, key, stamp, entry, free,
-    ) {
+    if !stack_unused(t, a.settings, entry, free) {
         return false;
     }
-    if !is_ordered(queue, key, stamp, n) {
+    if !is_ordered(t.queue, t.key, t.stamp, n) {
         return false;
     }
-    stamps_own(n, queue, stamp)
+    stamps_own(n, t.queue, t.stamp)
 }

@@ -1,9 +1,7 @@
 -- `judge::places::stack_unused` meets its contract. Assumes nothing.
-use mathlib.Core.Path.{refl}
 use Prim.Native.Nat.{◌<◌}
 use native.Mathlib.Omega.{arith}
 use Rattle.tables.proofs.Answers.{passed}
-use Rattle.judge.proofs.Parts.{occupied_as, zero_as}
 use Rattle.judge.proofs.Stacking.{stacking_as, stacking_start, stacking_used, stacking_free}
 use Rattle.judge.proofs.places.stack_unused.Goals as goal
 use Rattle.judge.proofs.places.stack_unused.Goals.{then-occupied+else-entry-p, else-occupied+else-not-is_zero}
@@ -20,8 +18,8 @@ loop-p-preserved c =
     let pre = c.requires in
     elim c.if-occupied.branch [
       | then-occupied+else-entry-p w ↦
-          stacking_as _ _ _ _ w.free-is w.top-is (stacking_used _ _ _ _ pre _ _ _ g inside (occupied_as refl refl (found.yes w.if-occupied.true)) w.if-entry-p.false)
+          stacking_as _ _ _ _ w.free-is w.top-is (stacking_used _ _ _ _ pre _ _ _ g inside (found.yes w.if-occupied.true) w.if-entry-p.false)
       | else-occupied+else-not-is_zero w ↦
           stacking_as _ _ _ _ w.free-is w.top-is
-          (stacking_free _ _ _ _ pre _ _ _ g inside (λ o. found.no w.if-occupied.false (occupied_as refl refl o)) (zero_as (passed w.is_zero.ensures w.if-not-is_zero.false)))
+          (stacking_free _ _ _ _ pre _ _ _ g inside (found.no w.if-occupied.false) (passed w.is_zero.ensures w.if-not-is_zero.false))
     ]
