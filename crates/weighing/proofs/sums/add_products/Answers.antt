@@ -38,5 +38,5 @@ loop-home-preserved c =
           let due = rw here at w.kept_product.ensures in
           let less = product_below (shown c.args.t) c.requires.weighable _ known some due in
           run_some _ _ loop.invariant l some due less (w.sum-is ∙ w.add_assign.ensures.after)
-      | else-home w ↦ subst (Adding _ _) (sym w.sum-is) (run_none _ _ loop.invariant l (rw here at w.if-home.false))
+      | else-home w ↦ subst (Adding _ _ _) (sym w.sum-is) (run_none _ _ loop.invariant l (rw here at w.if-home.false))
     ]
