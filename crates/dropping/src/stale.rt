@@ -4,7 +4,7 @@ ghost use Rattle.dropping.specs.Cleaning.{Cleanable, old_in, Cleans};
 
 use crate::copy::drop_copy;
 use amounts::{Bytes, Places};
-use method::{STALE, event};
+use method::{Kind, event};
 use shelving::{wide16, wide32};
 use tables::Tally;
 
@@ -44,7 +44,7 @@ pub fn drop_stale(
     if wide32(size[p]) == z.0 {
         return Cleaned { tally: a, due: at };
     }
-    events[at] = event(STALE, f);
+    events[at] = event(Kind::Stale as u32, f);
     let due = at + 1;
     let tally = drop_copy(
         a, p, place, file, size, cost, freq, key, stamp, queue, entry, free,

@@ -6,31 +6,49 @@ ghost use Rattle.method.specs.Events as events;
 use crate::outcome::{Outcome, Pass};
 use amounts::Catalogue;
 
-// The kinds.
-pub const HIT: u32 = 1;
+// What an entry tells of its file. The discriminant is the number in the list.
+#[derive(Clone, Copy, Debug, PartialEq, Eq)]
+pub enum Kind {
+    Hit = 1,
+    Admit = 2,
+    Big = 3,
+    Low = 4,
+    Evict = 5,
+    Stale = 6,
+}
 
-pub const ADMIT: u32 = 2;
+// A number that stands for no kind.
+#[derive(Clone, Copy, Debug, PartialEq, Eq)]
+pub struct UnknownKind(pub u32);
 
-pub const BIG: u32 = 3;
+impl TryFrom<u32> for Kind {
+    type Error = UnknownKind;
 
-pub const LOW: u32 = 4;
+    ghost try_from_gives = { events.Names };
 
-pub const EVICT: u32 = 5;
-
-pub const STALE: u32 = 6;
+    fn try_from(number: u32) -> Result<Self, UnknownKind> {
+        match number {
+            1 => Ok(Kind::Hit),
+            2 => Ok(Kind::Admit),
+            3 => Ok(Kind::Big),
+            4 => Ok(Kind::Low),
+            5 => Ok(Kind::Evict),
+            6 => Ok(Kind::Stale),
+            _ => Err(UnknownKind(number)),
+        }
+    }
+}
 
 impl Outcome {
     // The kind of a request's own entry.
-    pub fn kind(self) -> u32
-        ensures { result ≡ events.kind self }
+    pub fn kind(self) -> Kind
+        ensures { events.number_of result ≡ events.kind self }
     {
         match self {
-            Outcome::Hit => HIT,
-            Outcome::Admitted => ADMIT,
-            Outcome::Passed(why) => match why {
-                Pass::TooBig => BIG,
-                Pass::LowKey => LOW,
-            },
+            Outcome::Hit => Kind::Hit,
+            Outcome::Admitted => Kind::Admit,
+            Outcome::Passed(Pass::TooBig) => Kind::Big,
+            Outcome::Passed(Pass::LowKey) => Kind::Low,
         }
     }
 }
