@@ -8,5 +8,5 @@ mod tally;
 
 pub use fill::fill16;
 pub use length::long_enough;
-pub use start::{Started, fresh};
+pub use start::fresh;
 pub use tally::Tally;
