@@ -7,11 +7,13 @@ use native.Mathlib.Omega.{arith}
 use borrow.Author.Tests.{le-leb, eq-eqb}
 use lib.ListN.{length, replicate, length-replicate}
 use lib.Seq.{sets}
+use Rattle.std.specs.Prelude.{Result, Ok, Err}
 use Rattle.amounts.specs.Limits.{no_place, requests_most, is_unit, is_size, is_cost}
 use Rattle.amounts.specs.Settings.{in_range}
 use Rattle.amounts.specs.Requests.{Request, AllRanged}
 use Rattle.amounts.specs.declared.settings.Settings.{Settings}
 use Rattle.card.specs.Card.{done}
+use Rattle.card.specs.declared.Refusal.{Refusal}
 use Rattle.card.specs.declared.Refusal.TheVariants.{Range}
 use Rattle.method.specs.Method.{State, Run, run, step, fresh}
 use Rattle.method.specs.Whole.{lifts_of}
@@ -19,14 +21,11 @@ use Rattle.method.proofs.Runs.{events_length}
 use Rattle.method.proofs.Sound.{fresh_sound, fresh_files}
 use Rattle.trace.specs.Fields.{Field, val, off, field, on_val, is_file}
 use Rattle.trace.specs.Reading.{Read, good, stop, push, requests, read_of, rows}
-use Rattle.trace.specs.declared.answer.Answer.TheVariants.{Done, Refused}
 use Rattle.trace.proofs.OneAnswer.{answer_one}
 use Rattle.trace.proofs.Ranges.{settled as fields}
 use Rattle.tables.specs.Tables.{Tables, tables, Long, is_long, cleared}
 use Rattle.tables.specs.Tally.{store_of, policy_in, whole_of, fresh_tally}
 use Rattle.tables.specs.Start.{long, Freshly}
-use Rattle.tables.specs.declared.start.Started.{Started}
-use Rattle.tables.specs.declared.start.Started.TheVariants as started
 use Rattle.tables.specs.declared.tally.Tally.{Tally}
 use Rattle.tables.proofs.Lengths.{long_last}
 use Rattle.tables.proofs.Lists.{length_filled}
@@ -91,7 +90,7 @@ long_cleared p n t k =
 
 -- ---- the run
 
-module _ (s : Settings) (part told : List ℕ) (h : OwnSized s part told) (t : Tables) (k : Long s.places.0 s.catalogue.0 t) (d : Started) (u : Tables) (f : Freshly s t d u) where
+module _ (s : Settings) (part told : List ℕ) (h : OwnSized s part told) (t : Tables) (k : Long s.places.0 s.catalogue.0 t) (d : Result Tally Refusal) (u : Tables) (f : Freshly s t d u) where
   begun : (d ≡ started.Done (fresh_tally s)) × (u ≡ cleared s.places.0 s.catalogue.0 t)
   begun = fresh_done s t d u f h.given.ranged (long_is _ _ t k)
 
@@ -112,13 +111,13 @@ module _ (s : Settings) (part told : List ℕ) (h : OwnSized s part told) (t : T
     ran_good : (qs : List Request) → Runs qs (fresh_tally s) u told r w told' → RanOn s told r told' (good qs)
     ran_good qs x =
         let e = fresh_run qs in (
-          answer_one r.answer (Done (length (ran_events s qs))) (x.answer ∙ ap (λ (y : Run State). done (length (events_of qs y) ∷ [])) e),
+          answer_one r.answer (Ok (length (ran_events s qs))) (x.answer ∙ ap (λ (y : Run State). done (length (events_of qs y) ∷ [])) e),
           x.tally ∙ (λ i. tally_of (fresh_tally s) (fresh_lifts qs i) (e i)),
           x.written ∙ ap (λ (y : Run State). sets told 0 (events_of qs y)) e,
         )
 
     ran_read : (z : Read) → read_of (length part) s.catalogue.0 part ≡ z → Answers (fresh_tally s) u told r w told' part (fitting_read (fresh_tally s) (length told) z) → RanOn s told r told' z
-    ran_read (stop x) e y = answer_one r.answer (Refused x) y.answer
+    ran_read (stop x) e y = answer_one r.answer (Err x) y.answer
     ran_read (good qs) e y =
         let few : length qs ≤ length part = few_requests (length part) s.catalogue.0 part qs e in
         let ran = rw (le-leb (0 + length qs) requests_most (omega (arith, h.given.short)), le-leb (2 * length qs + 0) (length told) (omega (arith, h.given.short, h.events))) at y in

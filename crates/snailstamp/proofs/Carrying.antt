@@ -3,11 +3,12 @@ use mathlib.Core.Path.{◌≡◌, refl, ap, sym, ◌∙◌, subst}
 use mathlib.Core.Bool.{true, false}
 use mathlib.Core.List.{List}
 use Prim.Native.Nat.{ℕ}
+use Rattle.std.specs.Prelude.{Result}
 use Rattle.amounts.specs.Limits.{is_unit}
 use Rattle.card.specs.Card.{card_of}
+use Rattle.card.specs.declared.Refusal.{Refusal}
 use Rattle.card.specs.declared.Refusal.TheVariants.{Setting, Short}
 use Rattle.trace.specs.Cards.{answer_card}
-use Rattle.trace.specs.declared.answer.Answer.{Answer}
 use Rattle.tables.specs.Tables.{Tables}
 use Rattle.tables.specs.declared.tally.Tally.{Tally}
 use Rattle.replay.specs.Carrying.{Carries}
@@ -17,8 +18,8 @@ use Rattle.snailstamp.specs.Steps.{PutCarried}
 use Rattle.snailstamp.specs.Run.{enough, worded, carried_words, CarriedWords}
 
 -- the word and the words of an answer that is known
-pub put_carried : {x : Carried} {w : List ℕ} {r : ℕ} {w' : List ℕ} (y : Answer) → x.answer ≡ y → r ≡ answer_word (answer_card y) → w' ≡ carried_words y x.tally w → PutCarried x w r w'
-put_carried {x} {w} y q e v = record { answer = e ∙ ap (λ (z : Answer). answer_word (answer_card z)) (sym q); tally = v ∙ ap (λ (z : Answer). carried_words z x.tally w) (sym q) }
+pub put_carried : {x : Carried} {w : List ℕ} {r : ℕ} {w' : List ℕ} (y : Result ℕ Refusal) → x.answer ≡ y → r ≡ answer_word (answer_card y) → w' ≡ carried_words y x.tally w → PutCarried x w r w'
+put_carried {x} {w} y q e v = record { answer = e ∙ ap (λ (z : Result ℕ Refusal). answer_word (answer_card z)) (sym q); tally = v ∙ ap (λ (z : Result ℕ Refusal). carried_words z x.tally w) (sym q) }
 
 module _ (unit : ℕ) (part w : List ℕ) (t : Tables) (told : List ℕ) (r : ℕ) where
   pub carried_setting : is_unit unit ≡ false → r ≡ answer_word (card_of Setting) → CarriedWords unit part w t told r w t told

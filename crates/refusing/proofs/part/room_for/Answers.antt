@@ -3,8 +3,8 @@ use mathlib.Core.Path.{sym, ◌∙◌}
 use Rattle.refusing.proofs.Rooms.{fitting_stop, fitting_good}
 use Rattle.refusing.proofs.part.room_for.Goals as goal
 
-pub returns-in-Refused : goal.returns-in-Refused
-returns-in-Refused c = sym (fitting_stop _ _ _ _ (sym c.in-Refused.ensures))
+pub returns-in_err-count : goal.returns-in_err-count
+returns-in_err-count c = let h = c.from_residual.ensures in let g = c.in_err-count.ensures in ?
 
-pub returns-in-Done : goal.returns-in-Done
-returns-in-Done c = c.has_room.ensures ∙ sym (fitting_good _ _ _ _ (sym c.in-Done.ensures))
+pub returns : goal.returns
+returns c = c.has_room.ensures ∙ sym (fitting_good _ _ _ _ (sym c.in_ok-count.ensures))
