@@ -44,7 +44,7 @@ pub fn drop_stale(
     if wide32(size[p]) == z.0 {
         return Cleaned { tally: a, due: at };
     }
-    events[at] = event(Kind::Stale as u32, f);
+    events[at] = event(u32::from(Kind::Stale), f);
     let due = at + 1;
     let tally = drop_copy(
         a, p, place, file, size, cost, freq, key, stamp, queue, entry, free,

@@ -34,8 +34,7 @@ use Rattle.tables.proofs.Near.{fresh_whole}
 use Rattle.tables.proofs.Twins.{fresh_done, freshly_sound}
 use Rattle.parts.specs.Parts.{run_from, lifts_from, tally_of, events_of}
 use Rattle.refusing.specs.Judging.{fitting_read, fitting, settled}
-use Rattle.replay.specs.Carrying.{Runs, Answers, Judges, Carries}
-use Rattle.replay.specs.declared.carry.Carried.{Carried}
+use Rattle.replay.specs.Carrying.{Carried, Runs, Answers, Judges, Carries}
 use Rattle.layout.specs.Sheet.{own_places, own_catalogue, run_of, ran_lifts, ran_events}
 use Rattle.layout.specs.Steps.{OwnSized, RanOn, Ran}
 

@@ -19,7 +19,6 @@ use Rattle.trace.proofs.Answers.{start_shut, start_at}
 use Rattle.trace.proofs.Taking.{five}
 use Rattle.trace.proofs.Laying.{laid_over}
 use Rattle.trace.proofs.RoundTrip.{part_ranged}
-use Rattle.replay.specs.declared.carry.Carried.{Carried}
 use Rattle.layout.specs.Sheet.{input_most, own_places, own_catalogue, own_events, sheet_most, ran_events, of_read, of_file, sheet_of}
 use Rattle.lines.specs.Lines.{refused_line, page}
 use Rattle.layout.specs.Steps.{Given, OwnSized, RanOn, Ran, Ample}
@@ -28,6 +27,7 @@ use Rattle.layout.specs.Promise.{Sheeted}
 use Rattle.lines.proofs.Items.{laid_long}
 use Rattle.layout.proofs.Running.{few_requests, few_events}
 use Rattle.layout.proofs.Fitting.{refused_short, read_fits, sheet_fits}
+use Rattle.replay.specs.Carrying.{Carried}
 
 -- what was laid at the front is there to take
 take_laid : (vs list list' : List ℕ) (n : ℕ) → length vs ≤ length list → Laid vs 0 list list' n → take n list' ≡ vs

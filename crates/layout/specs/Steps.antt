@@ -4,8 +4,8 @@ use Rattle.std.proofs.lemmas.List.Edits.{sets}
 use Rattle.amounts.specs.Settings.{in_range}
 use Rattle.amounts.specs.declared.settings.Settings.{Settings}
 use Rattle.trace.specs.Reading.{Read, good, stop, read_of}
-use Rattle.replay.specs.declared.carry.Carried.{Carried}
 use Rattle.layout.specs.Sheet.{input_most, own_places, own_catalogue, own_events, sheet_most, ran_tally, ran_events}
+use Rattle.replay.specs.Carrying.{Carried}
 
 -- settings and requests of a trace that the program takes
 pub record Given (s : Settings) (part : List ℕ) : Type 0 where

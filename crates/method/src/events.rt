@@ -6,15 +6,31 @@ ghost use Rattle.method.specs.Events as events;
 use crate::outcome::{Outcome, Pass};
 use amounts::Catalogue;
 
-// What an entry tells of its file. The discriminant is the number in the list.
+// What an entry tells of its file.
 #[derive(Clone, Copy, Debug, PartialEq, Eq)]
 pub enum Kind {
-    Hit = 1,
-    Admit = 2,
-    Big = 3,
-    Low = 4,
-    Evict = 5,
-    Stale = 6,
+    Hit,
+    Admit,
+    Big,
+    Low,
+    Evict,
+    Stale,
+}
+
+// The number that the list holds for a kind.
+impl From<Kind> for u32 {
+    ghost from_gives = { λ kind result. result ≡ events.number_of kind };
+
+    fn from(kind: Kind) -> u32 {
+        match kind {
+            Kind::Hit => 1,
+            Kind::Admit => 2,
+            Kind::Big => 3,
+            Kind::Low => 4,
+            Kind::Evict => 5,
+            Kind::Stale => 6,
+        }
+    }
 }
 
 // A number that stands for no kind.

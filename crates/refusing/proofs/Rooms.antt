@@ -17,7 +17,7 @@ use Rattle.trace.specs.Steps.{counted}
 use Rattle.trace.proofs.Scanning.{counted_good, counted_stop}
 use Rattle.tables.specs.declared.tally.Tally.{Tally}
 use Rattle.tables.proofs.Lengths.{and_right}
-use Rattle.refusing.specs.Judging.{requests_in, roomed, fitting_read, fitting, settled}
+use Rattle.refusing.specs.Judging.{requests_in, roomed, fitting_read, fitting, fine, settled}
 
 -- ---- the part
 
@@ -57,12 +57,12 @@ fits a part count told e = read (read_of (length part) a.settings.catalogue.0 pa
 
 -- ---- the settings, the lengths and the unit
 
-pub settled_fine : (unit : ℕ) (a : Tally) (enough : Bool) → settled unit a enough ≡ Ok tt → (in_range a.settings ≡ true) × (enough ≡ true)
+pub settled_fine : (unit : ℕ) (a : Tally) (enough : Bool) → settled unit a enough ≡ fine → (in_range a.settings ≡ true) × (enough ≡ true)
 unfolding settled
 settled_fine unit a enough e = go (is_unit unit && in_range a.settings) refl enough refl (eqb unit a.settings.unit.0) e
   where
     go : (x : Bool) → is_unit unit && in_range a.settings ≡ x → (y : Bool) → enough ≡ y → (z : Bool)
-        → pick x (pick y (pick z (Ok tt) (Err OtherUnit)) (Err Short)) (Err Setting) ≡ Ok tt → (in_range a.settings ≡ true) × (enough ≡ true)
+        → pick x (pick y (pick z fine (Err OtherUnit)) (Err Short)) (Err Setting) ≡ fine → (in_range a.settings ≡ true) × (enough ≡ true)
     go true f true g true e = (and_right (is_unit unit) (in_range a.settings) f, g)
     go true f true g false e = let w : ◌≡◌ {A = ℕ} 0 1 = cc in absurd (omega arith)
     go true f false g z e = let w : ◌≡◌ {A = ℕ} 0 1 = cc in absurd (omega arith)

@@ -32,11 +32,15 @@ fitting_read a told (good qs) = roomed a (length qs) told
 unfoldable pub fitting : Tally → List ℕ → ℕ → Result ℕ Refusal
 fitting a part told = fitting_read a told (read_of (length part) a.settings.catalogue.0 part)
 
+-- nothing stands against the call so far
+abbrev pub fine : Result ⊤ Refusal
+fine = Ok tt
+
 -- document 01, "Order": 1, 2 or 8, where the tables are long enough or not
 unfoldable pub settled : ℕ → Tally → Bool → Result ⊤ Refusal
 settled unit a enough =
     pick (is_unit unit && in_range a.settings)
-    (pick enough (pick (eqb unit a.settings.unit.0) (Ok tt) (Err OtherUnit)) (Err Short))
+    (pick enough (pick (eqb unit a.settings.unit.0) fine (Err OtherUnit)) (Err Short))
     (Err Setting)
 
 -- what is passed where 1 and 2 are not due

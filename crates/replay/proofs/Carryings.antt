@@ -5,7 +5,7 @@ use mathlib.Core.List.{List, [], ◌∷◌}
 use Prim.Native.Nat.{ℕ, ◌≤◌}
 use native.Mathlib.Omega.{arith}
 use lib.ListN.{length}
-use Rattle.std.specs.Prelude.{Result, Ok}
+use Rattle.std.specs.Prelude.{Result, Ok, ⊤}
 use Rattle.card.specs.Card.{done}
 use Rattle.card.specs.declared.Refusal.{Refusal}
 use Rattle.trace.specs.Cards.{answer_card}
@@ -20,11 +20,10 @@ use Rattle.tables.proofs.Lengths.{long_of}
 use Rattle.tables.proofs.Near.{near}
 use Rattle.tables.proofs.Ranges.{bounded}
 use Rattle.serving.specs.Serving.{Running}
-use Rattle.refusing.specs.Judging.{Judgeable, fitting, settled, Orderly}
+use Rattle.refusing.specs.Judging.{Judgeable, fitting, fine, settled, Orderly}
 use Rattle.refusing.proofs.Rooms.{fits, settled_fine}
 use Rattle.parts.specs.Parts.{Ready, PartServed}
-use Rattle.replay.specs.Carrying.{Runs, Answers, Judges, Settles, Carries}
-use Rattle.replay.specs.declared.carry.Carried.{Carried}
+use Rattle.replay.specs.Carrying.{Carried, Runs, Answers, Judges, Settles, Carries}
 use Rattle.parts.specs.declared.Ended.{Ended}
 
 -- ---- what is due is given
@@ -38,7 +37,7 @@ module _ (a : Tally) (t : Tables) (told : List ℕ) (r : Carried) (u : Tables) (
 
 -- ---- sound tables, ready to be served
 
-pub orderly : (unit : ℕ) (a : Tally) (t : Tables) → settled unit a (long a.settings t) ≡ Ok tt → Orderly a t
+pub orderly : (unit : ℕ) (a : Tally) (t : Tables) → settled unit a (long a.settings t) ≡ fine → Orderly a t
 orderly unit a t e = let x = settled_fine unit a (long a.settings t) e in record { range = x.0; long = long_of a.settings.places.0 a.settings.catalogue.0 t x.1 }
 
 pub judgeable : (a : Tally) (t : Tables) → Orderly a t → Sound a t → Judgeable a

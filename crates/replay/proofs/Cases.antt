@@ -6,7 +6,7 @@ use mathlib.Core.Logic.{◌⊎◌, inl, inr}
 use Prim.Native.Nat.{ℕ}
 use native.Mathlib.Omega.{arith}
 use lib.ListN.{length}
-use Rattle.std.specs.Prelude.{Result, Ok, Err}
+use Rattle.std.specs.Prelude.{Result, Ok, Err, ⊤}
 use Rattle.amounts.specs.Settings.{in_range}
 use Rattle.card.specs.declared.Refusal.{Refusal}
 use Rattle.card.specs.declared.Refusal.TheVariants.{Unsound}
@@ -18,8 +18,7 @@ use Rattle.tables.proofs.SoundDecided.{sound_decided}
 use Rattle.serving.specs.Serving.{beyond_of}
 use Rattle.refusing.specs.Judging.{fitting, settled}
 use Rattle.refusing.proofs.Rooms.{Fits, fits, settled_fine}
-use Rattle.replay.specs.Carrying.{Answers, Settles, Carries}
-use Rattle.replay.specs.declared.carry.Carried.{Carried}
+use Rattle.replay.specs.Carrying.{Carried, Answers, Settles, Carries}
 
 -- the first of the three verdicts that refuses, else the last
 abbrev pub due : Result ⊤ Refusal → Bool → Result ℕ Refusal → Result ℕ Refusal

@@ -36,9 +36,8 @@ use Rattle.counting.specs.Counting.{whole_tally}
 use Rattle.serving.specs.Serving.{beyond_of}
 use Rattle.refusing.specs.Judging.{requests_in}
 use Rattle.parts.specs.Parts.{run_from, lifts_from, tally_of, events_of}
-use Rattle.replay.specs.Carrying.{Runs, Answers, Carries}
+use Rattle.replay.specs.Carrying.{Carried, Runs, Answers, Carries}
 use Rattle.replay.specs.Demand.{Goes, here, on, AtOnce}
-use Rattle.replay.specs.declared.carry.Carried.{Carried}
 use Rattle.replay.proofs.Cases.{due_here, answers, sure}
 use Rattle.replay.proofs.OneAnswer.{one_shelf}
 use Rattle.parts.proofs.Walking.{good_one, stands}

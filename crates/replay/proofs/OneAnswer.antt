@@ -30,9 +30,8 @@ use Rattle.tables.proofs.Shelves.{fresh_shelf}
 use Rattle.tables.proofs.Twins.{fresh_done, freshly_sound, twins}
 use Rattle.refusing.specs.Judging.{requests_in, fitting, settled}
 use Rattle.parts.specs.Parts.{run_from, lifts_from, tally_of, events_of}
-use Rattle.replay.specs.Carrying.{Runs, Answers, Carries}
+use Rattle.replay.specs.Carrying.{Carried, Runs, Answers, Carries}
 use Rattle.replay.specs.Agreeing.{Left, Same, Alike}
-use Rattle.replay.specs.declared.carry.Carried.{Carried}
 use Rattle.replay.proofs.Cases.{due, due_here, due_sound, answers, sure, past}
 
 -- ---- sound tables of one tally that stand for one whole state

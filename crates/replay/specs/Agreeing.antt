@@ -5,7 +5,7 @@ use Rattle.card.specs.declared.Refusal.{Refusal}
 use Rattle.tables.specs.Tables.{Tables, needed}
 use Rattle.tables.specs.Renaming.{Renamed}
 use Rattle.serving.specs.Serving.{beyond_of}
-use Rattle.replay.specs.declared.carry.Carried.{Carried}
+use Rattle.replay.specs.Carrying.{Carried}
 
 -- the needed entries that two calls leave, with n files kept: equal where they are refused; where they are done, but for a renaming of places and the queue's order
 abbrev pub Left : Settings → ℕ → Tables → Tables → Result ℕ Refusal → Type 0

@@ -13,8 +13,18 @@ use Rattle.tables.specs.Sound.{Sound}
 use Rattle.tables.specs.declared.tally.Tally.{Tally}
 use Rattle.serving.specs.Serving.{beyond_of}
 use Rattle.refusing.specs.Judging.{requests_in, fitting, settled}
+use Rattle.parts.specs.declared.Ended.{Ended}
 use Rattle.parts.specs.Parts.{run_from, lifts_from, tally_of, events_of}
-use Rattle.replay.specs.declared.carry.Carried.{Carried}
+
+-- what a call gives: the answer, and the tally after it
+pub record Carried : Type 0 where
+  pub answer : Result ℕ Refusal
+  pub tally : Tally
+
+-- a refusal leaves the tally that the call was given
+abbrev pub carried : Tally → Result Ended Refusal → Carried
+carried a (Ok e) = record { answer = Ok e.events; tally = e.tally }
+carried a (Err x) = record { answer = Err x; tally = a }
 
 -- document 01, "Order": a refusal is decided before anything is written
 pub record Refuses (card : Card) (a : Tally) (t : Tables) (told : List ℕ) (r : Carried) (u : Tables) (told' : List ℕ) : Type 0 where

@@ -18,8 +18,7 @@ use Rattle.tables.specs.Start.{long, Freshly}
 use Rattle.tables.specs.declared.tally.Tally.{Tally}
 use Rattle.serving.specs.Serving.{beyond_of}
 use Rattle.parts.specs.Parts.{run_from, lifts_from, tally_of, events_of}
-use Rattle.replay.specs.Carrying.{Carries}
-use Rattle.replay.specs.declared.carry.Carried.{Carried}
+use Rattle.replay.specs.Carrying.{Carried, Carries}
 
 -- from tally a and tables t, any number of calls that were done lead to another tally and other tables: bytes are their parts joined, es their events joined, n of each call's list
 pub data Goes (a : Tally) (t : Tables) : Tally → Tables → List ℕ → List ℕ → Type 0 where

@@ -7,7 +7,7 @@ ghost use Rattle.shelving.specs.Telling.{Tellable, Told};
 use crate::records::clear;
 use crate::wide::wide16;
 use amounts::Settings;
-use method::Kind;
+use method::{Kind, event};
 
 // Writes the evictions: the files behind the queue, from the last of n entries down.
 pub fn tell(n: usize, left: usize, file: &[u16], queue: &[u16], events: &mut [u32], at: usize)
@@ -19,7 +19,7 @@ pub fn tell(n: usize, left: usize, file: &[u16], queue: &[u16], events: &mut [u3
     while left < i {
         let last = i - 1;
         let p = wide16(queue[last]);
-        events[e] = method::event(Kind::Evict as u32, wide16(file[p]));
+        events[e] = event(u32::from(Kind::Evict), wide16(file[p]));
         e += 1;
         i = last;
     }

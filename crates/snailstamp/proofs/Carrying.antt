@@ -11,8 +11,7 @@ use Rattle.card.specs.declared.Refusal.TheVariants.{Setting, Short}
 use Rattle.trace.specs.Cards.{answer_card}
 use Rattle.tables.specs.Tables.{Tables}
 use Rattle.tables.specs.declared.tally.Tally.{Tally}
-use Rattle.replay.specs.Carrying.{Carries}
-use Rattle.replay.specs.declared.carry.Carried.{Carried}
+use Rattle.replay.specs.Carrying.{Carried, Carries}
 use Rattle.words.specs.Words.{answer_word, tally_in}
 use Rattle.snailstamp.specs.Steps.{PutCarried}
 use Rattle.snailstamp.specs.Run.{enough, worded, carried_words, CarriedWords}

@@ -13,9 +13,8 @@ use Rattle.tables.specs.Tally.{fresh_tally}
 use Rattle.tables.specs.Start.{words, long, start_tables}
 use Rattle.tables.specs.Renaming.{Renamed}
 use Rattle.tables.specs.declared.tally.Tally.{Tally}
-use Rattle.replay.specs.Carrying.{Carries}
+use Rattle.replay.specs.Carrying.{Carried, Carries}
 use Rattle.serving.specs.Serving.{beyond_of}
-use Rattle.replay.specs.declared.carry.Carried.{Carried}
 use Rattle.words.specs.Words.{answer_word, tally_words, tally_in}
 
 -- docs/BOUNDARY.md: a tally of fewer words is too short

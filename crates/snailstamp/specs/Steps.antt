@@ -7,11 +7,11 @@ use Rattle.trace.specs.Reading.{stop}
 use Rattle.trace.specs.Cards.{answer_card, numbers}
 use Rattle.trace.specs.Promise.{over}
 use Rattle.tables.specs.Start.{words}
-use Rattle.replay.specs.declared.carry.Carried.{Carried}
 use Rattle.words.specs.Words.{answer_word}
 use Rattle.snailstamp.specs.Run.{carried_words}
 use Rattle.tables.specs.declared.tally.Tally.{Tally}
 use Rattle.snailstamp.specs.Traces.{placed, file_taken}
+use Rattle.replay.specs.Carrying.{Carried}
 
 -- docs/BOUNDARY.md: the word of a fresh start, 0 when done
 abbrev pub started_word : Result Tally Refusal → ℕ

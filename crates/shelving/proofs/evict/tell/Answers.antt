@@ -10,7 +10,7 @@ use Rattle.shelving.proofs.evict.tell.Goals as goal
 pub loop-i-preserved : goal.loop-i-preserved
 loop-i-preserved c =
     let is_last : let x = c.args in c.wide16.result ≡ get_or x.file.now (get_or x.queue.now (c.loop-i.i - 1) 0) 0 = c.wide16.ensures ∙ ap (λ (k : ℕ). get_or c.args.file.now k 0) c.wide16-p.ensures in
-    telling_more _ _ _ _ _ _ _ _ _ _ c.loop-i.invariant c.loop-i-test.true (c.event.ensures ∙ ap (event 5) is_last)
+    telling_more _ _ _ _ _ _ _ _ _ _ c.loop-i.invariant c.loop-i-test.true (c.event.ensures ∙ (λ i. event (c.from.ensures i) (is_last i)))
 
 pub returns : goal.returns
 returns c = telling_end _ _ _ _ _ _ _ _ _ c.loop-i.invariant c.loop-i-test.false
