@@ -30,6 +30,7 @@ pub fn put_item(word: &[u8], n: u64, end: u8, out: &mut [u8], at: usize) -> usiz
 }
 
 // The word of a kind's number; one that no kind has is told as an eviction.
+#[tactic(auto, unfolding(crate::specs::Lines::kind_word))]
 fn kind_word(number: u32) -> &'static [u8]
     ensures { result.now ≡ kind_word number }
 {
