@@ -34,7 +34,8 @@ use Rattle.tables.proofs.Near.{fresh_whole}
 use Rattle.tables.proofs.Twins.{fresh_done, freshly_sound}
 use Rattle.parts.specs.Parts.{run_from, lifts_from, tally_of, events_of}
 use Rattle.refusing.specs.Judging.{fitting_read, fitting, settled}
-use Rattle.replay.specs.Carrying.{Carried, Runs, Answers, Judges, Carries}
+use Rattle.parts.specs.declared.Ended.{Ended}
+use Rattle.replay.specs.Carrying.{Carried, carried, Runs, Answers, Judges, Carries}
 use Rattle.layout.specs.Sheet.{own_places, own_catalogue, run_of, ran_lifts, ran_events}
 use Rattle.layout.specs.Steps.{OwnSized, RanOn, Ran}
 
@@ -90,7 +91,7 @@ long_cleared p n t k =
 -- ---- the run
 
 module _ (s : Settings) (part told : List ℕ) (h : OwnSized s part told) (t : Tables) (k : Long s.places.0 s.catalogue.0 t) (d : Result Tally Refusal) (u : Tables) (f : Freshly s t d u) where
-  begun : (d ≡ started.Done (fresh_tally s)) × (u ≡ cleared s.places.0 s.catalogue.0 t)
+  begun : (d ≡ Ok (fresh_tally s)) × (u ≡ cleared s.places.0 s.catalogue.0 t)
   begun = fresh_done s t d u f h.given.ranged (long_is _ _ t k)
 
   long_after : long s u ≡ true
@@ -129,8 +130,15 @@ module _ (s : Settings) (part told : List ℕ) (h : OwnSized s part told) (t : T
         let j : Judges (fresh_tally s) u told r w told' part = rw (l, long_after, eq-eqb s.unit.0 s.unit.0 refl) at y in
         record { ran = ran_read (read_of (length part) s.catalogue.0 part) refl (j.sound (freshly_sound s t d u f h.given.ranged (long_is _ _ t k)).1) }
 
-    pub ran_own : (a : Tally) → a ≡ fresh_tally s → Carries a u told r w told' s.unit.0 part → Ran s part told r told'
-    ran_own a e y = ran_fresh (subst (λ (b : Tally). Carries b u told r w told' s.unit.0 part) e y)
+  -- the start is done, with a fresh tally, and what is carried on from it is the run
+  pub not_refused : (x : Refusal) → d ≡ Err x → ⊥
+  not_refused x e = let z : ◌≡◌ {A = Result Tally Refusal} (Err x) (Ok (fresh_tally s)) = sym e ∙ begun.0 in let n : ◌≡◌ {A = ℕ} 0 1 = cc in absurd (omega arith)
+
+  pub ran_own : (a : Tally) → d ≡ Ok a → (r : Result Ended Refusal) (w : Tables) (told' : List ℕ) → Carries a u told (carried a r) w told' s.unit.0 part → Ran s part told (carried (fresh_tally s) r) told'
+  ran_own a e r w told' y =
+      let z : ◌≡◌ {A = Result Tally Refusal} (Ok a) (Ok (fresh_tally s)) = sym e ∙ begun.0 in
+      let same : a ≡ fresh_tally s = cc in
+      ran_fresh (carried (fresh_tally s) r) w told' (subst (λ (b : Tally). Carries b u told (carried b r) w told' s.unit.0 part) same y)
 
 -- tables of the program's own lengths are long enough
 pub own_long : (s : Settings) (part told : List ℕ) → OwnSized s part told → (p c : ℕ) → own_places ≤ p → own_catalogue ≤ c

@@ -22,7 +22,6 @@ use Rattle.trace.proofs.RoundTrip.{part_ranged}
 use Rattle.layout.specs.Sheet.{input_most, own_places, own_catalogue, own_events, sheet_most, ran_events, of_read, of_file, sheet_of}
 use Rattle.lines.specs.Lines.{refused_line, page}
 use Rattle.layout.specs.Steps.{Given, OwnSized, RanOn, Ran, Ample}
-use Rattle.lines.specs.Laying.{Copies, Events}
 use Rattle.layout.specs.Promise.{Sheeted}
 use Rattle.lines.proofs.Items.{laid_long}
 use Rattle.layout.proofs.Running.{few_requests, few_events}
@@ -69,7 +68,7 @@ module _ (s : Settings) (part : List ℕ) where
 
       -- the page of what a run that is done has left
       pub record Paged (count : ℕ) : Type 0 where
-        pub many : Events told' count
+        pub many : count ≤ length told'
         pub same : page r.tally (take count told') ≡ of_file (opened s part)
         pub short : length (page r.tally (take count told')) ≤ sheet_most
 
@@ -87,7 +86,7 @@ module _ (s : Settings) (part : List ℕ) where
               let same : page r.tally (take count told') ≡ of_read s (good qs) =
               (λ j. page (q.1 j) (take_laid es told told' count few (record { placed = q.2; ends = omega arith }) j)) in
               record {
-                many = record { many = omega (arith, n, few, ap length q.2, length-sets told 0 es) };
+                many = omega (arith, n, few, ap length q.2, length-sets told 0 es);
                 same = same ∙ sym (within ∙ ap (of_read s) i);
                 short = rw same (read_fits s part h.given (good qs) i);
               }
@@ -135,12 +134,11 @@ module _ (trace text text' : List ℕ) (count : ℕ) (p : Laid (sheet_of trace) 
   taken : take count text' ≡ sheet_of trace
   taken = take_laid (sheet_of trace) text text' count (omega (arith, sheet_fits trace, a.room)) p
 
-  pub sheet_copies : count ≤ length out → Copies text' count 0 out
-  sheet_copies h =
-      record {
-        many = omega (arith, p.ends, sheet_fits trace, a.room, laid_long _ _ _ _ _ p);
-        room = record { room = omega (arith, h, p.ends, ap length taken) };
-      }
+  pub sheet_inside : count ≤ length text'
+  sheet_inside = omega (arith, p.ends, sheet_fits trace, a.room, laid_long _ _ _ _ _ p)
+
+  pub sheet_copies : count ≤ length out → Roomy (take count text') 0 out
+  sheet_copies h = record { room = omega (arith, h, p.ends, ap length taken) }
 
   pub sheet_done : count ≤ length out → (out' : List ℕ) (at : ℕ) → Laid (take count text') 0 out out' at → Sheeted trace out (Ok count) out'
   sheet_done h out' at q =
