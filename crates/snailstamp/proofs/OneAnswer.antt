@@ -6,7 +6,7 @@ use Prim.Native.Nat.{ℕ, ◌%◌}
 use lib.ListN.{drop}
 use lib.Seq.{drop_at}
 use lib.Ieee.{Float}
-use Rattle.std.specs.Prelude.{Result, Ok, Err}
+use Rattle.std.specs.Prelude.{Result, Ok, Err, ⊤}
 use Rattle.amounts.specs.declared.settings.Settings.{Settings}
 use Rattle.card.specs.Card.{card_of}
 use Rattle.card.specs.declared.Refusal.{Refusal}

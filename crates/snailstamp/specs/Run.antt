@@ -13,6 +13,7 @@ use Rattle.tables.specs.Tally.{fresh_tally}
 use Rattle.tables.specs.Start.{words, long, start_tables}
 use Rattle.tables.specs.Renaming.{Renamed}
 use Rattle.tables.specs.declared.tally.Tally.{Tally}
+use Rattle.refusing.specs.Judging.{fine}
 use Rattle.replay.specs.Carrying.{Carried, Carries}
 use Rattle.serving.specs.Serving.{beyond_of}
 use Rattle.words.specs.Words.{answer_word, tally_words, tally_in}
@@ -60,7 +61,7 @@ pub record CarriedOn (unit : ℕ) (part : List ℕ) (w : List ℕ) (t : Tables) 
 
 -- docs/BOUNDARY.md: the unit named is judged first (1), then the tally's words (2), then all as `carry_on` judges it
 unfoldable pub worded : ℕ → List ℕ → Result ⊤ Refusal
-worded unit w = pick (is_unit unit) (pick (enough w) (Ok tt) (Err Short)) (Err Setting)
+worded unit w = pick (is_unit unit) (pick (enough w) fine (Err Short)) (Err Setting)
 
 module _ (unit : ℕ) (part : List ℕ) (w : List ℕ) (t : Tables) (told : List ℕ) (r : ℕ) (w' : List ℕ) (u : Tables) (told' : List ℕ) where
   abbrev pub WordsSettle : Result ⊤ Refusal → Type 0

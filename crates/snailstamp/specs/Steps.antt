@@ -11,7 +11,8 @@ use Rattle.words.specs.Words.{answer_word}
 use Rattle.snailstamp.specs.Run.{carried_words}
 use Rattle.tables.specs.declared.tally.Tally.{Tally}
 use Rattle.snailstamp.specs.Traces.{placed, file_taken}
-use Rattle.replay.specs.Carrying.{Carried}
+use Rattle.parts.specs.declared.Ended.{Ended}
+use Rattle.replay.specs.Carrying.{Carried, carried}
 
 -- docs/BOUNDARY.md: the word of a fresh start, 0 when done
 abbrev pub started_word : Result Tally Refusal → ℕ
@@ -32,6 +33,10 @@ pub record PutStarted (x : Result Tally Refusal) (w : List ℕ) (r : ℕ) (w' : 
 pub record PutCarried (x : Carried) (w : List ℕ) (r : ℕ) (w' : List ℕ) : Type 0 where
   pub answer : r ≡ answer_word (answer_card x.answer)
   pub tally : w' ≡ carried_words x.answer x.tally w
+
+-- so of the call's result x, whatever tally the call was given
+pub record PutEnded (x : Result Ended Refusal) (w : List ℕ) (r : ℕ) (w' : List ℕ) : Type 0 where
+  pub put : (a : Tally) → PutCarried (carried a x) w r w'
 
 -- docs/BOUNDARY.md: the word of a file read, with the number of requests when done
 abbrev pub read_word : Result (Settings × ℕ) Refusal → ℕ
