@@ -4,7 +4,7 @@ ghost use Rattle.dropping.specs.Cleaning.{Cleanable, old_in, Cleans};
 
 use crate::copy::drop_copy;
 use amounts::{Bytes, Places};
-use method::{STALE, event};
+use method::{Kind, event};
 use tables::Tally;
 
 // The tally once no stale copy of the file is kept, and where the next event is due.
@@ -43,7 +43,7 @@ pub fn drop_stale(
     if u64::from(size[p]) == z.0 {
         return Cleaned { tally: a, due: at };
     }
-    events[at] = event(STALE, f);
+    events[at] = event(u32::from(Kind::Stale), f);
     let due = at + 1;
     let tally = drop_copy(
         a, p, place, file, size, cost, freq, key, stamp, queue, entry, free,

@@ -7,11 +7,13 @@ use native.Mathlib.Omega.{arith}
 use borrow.Author.Tests.{le-leb, eq-eqb}
 use lib.ListN.{length, replicate, length-replicate}
 use lib.Seq.{sets}
+use Rattle.std.specs.Prelude.{Result, Ok, Err}
 use Rattle.amounts.specs.Limits.{no_place, requests_most, is_unit, is_size, is_cost}
 use Rattle.amounts.specs.Settings.{in_range}
 use Rattle.amounts.specs.Requests.{Request, AllRanged}
 use Rattle.amounts.specs.declared.settings.Settings.{Settings}
 use Rattle.card.specs.Card.{done}
+use Rattle.card.specs.declared.Refusal.{Refusal}
 use Rattle.card.specs.declared.Refusal.TheVariants.{Range}
 use Rattle.method.specs.Method.{State, Run, run, step, fresh}
 use Rattle.method.specs.Whole.{lifts_of}
@@ -19,14 +21,11 @@ use Rattle.method.proofs.Runs.{events_length}
 use Rattle.method.proofs.Sound.{fresh_sound, fresh_files}
 use Rattle.trace.specs.Fields.{Field, val, off, field, on_val, is_file}
 use Rattle.trace.specs.Reading.{Read, good, stop, push, requests, read_of, rows}
-use Rattle.trace.specs.declared.answer.Answer.TheVariants.{Done, Refused}
 use Rattle.trace.proofs.OneAnswer.{answer_one}
 use Rattle.trace.proofs.Ranges.{settled as fields}
 use Rattle.tables.specs.Tables.{Tables, tables, Long, is_long, cleared}
 use Rattle.tables.specs.Tally.{store_of, policy_in, whole_of, fresh_tally}
 use Rattle.tables.specs.Start.{long, Freshly}
-use Rattle.tables.specs.declared.start.Started.{Started}
-use Rattle.tables.specs.declared.start.Started.TheVariants as started
 use Rattle.tables.specs.declared.tally.Tally.{Tally}
 use Rattle.tables.proofs.Lengths.{long_last}
 use Rattle.tables.proofs.Lists.{length_filled}
@@ -35,8 +34,8 @@ use Rattle.tables.proofs.Near.{fresh_whole}
 use Rattle.tables.proofs.Twins.{fresh_done, freshly_sound}
 use Rattle.parts.specs.Parts.{run_from, lifts_from, tally_of, events_of}
 use Rattle.refusing.specs.Judging.{fitting_read, fitting, settled}
-use Rattle.replay.specs.Carrying.{Runs, Answers, Judges, Carries}
-use Rattle.replay.specs.declared.carry.Carried.{Carried}
+use Rattle.parts.specs.declared.Ended.{Ended}
+use Rattle.replay.specs.Carrying.{Carried, carried, Runs, Answers, Judges, Carries}
 use Rattle.layout.specs.Sheet.{own_places, own_catalogue, run_of, ran_lifts, ran_events}
 use Rattle.layout.specs.Steps.{OwnSized, RanOn, Ran}
 
@@ -91,8 +90,8 @@ long_cleared p n t k =
 
 -- ---- the run
 
-module _ (s : Settings) (part told : List ℕ) (h : OwnSized s part told) (t : Tables) (k : Long s.places.0 s.catalogue.0 t) (d : Started) (u : Tables) (f : Freshly s t d u) where
-  begun : (d ≡ started.Done (fresh_tally s)) × (u ≡ cleared s.places.0 s.catalogue.0 t)
+module _ (s : Settings) (part told : List ℕ) (h : OwnSized s part told) (t : Tables) (k : Long s.places.0 s.catalogue.0 t) (d : Result Tally Refusal) (u : Tables) (f : Freshly s t d u) where
+  begun : (d ≡ Ok (fresh_tally s)) × (u ≡ cleared s.places.0 s.catalogue.0 t)
   begun = fresh_done s t d u f h.given.ranged (long_is _ _ t k)
 
   long_after : long s u ≡ true
@@ -112,13 +111,13 @@ module _ (s : Settings) (part told : List ℕ) (h : OwnSized s part told) (t : T
     ran_good : (qs : List Request) → Runs qs (fresh_tally s) u told r w told' → RanOn s told r told' (good qs)
     ran_good qs x =
         let e = fresh_run qs in (
-          answer_one r.answer (Done (length (ran_events s qs))) (x.answer ∙ ap (λ (y : Run State). done (length (events_of qs y) ∷ [])) e),
+          answer_one r.answer (Ok (length (ran_events s qs))) (x.answer ∙ ap (λ (y : Run State). done (length (events_of qs y) ∷ [])) e),
           x.tally ∙ (λ i. tally_of (fresh_tally s) (fresh_lifts qs i) (e i)),
           x.written ∙ ap (λ (y : Run State). sets told 0 (events_of qs y)) e,
         )
 
     ran_read : (z : Read) → read_of (length part) s.catalogue.0 part ≡ z → Answers (fresh_tally s) u told r w told' part (fitting_read (fresh_tally s) (length told) z) → RanOn s told r told' z
-    ran_read (stop x) e y = answer_one r.answer (Refused x) y.answer
+    ran_read (stop x) e y = answer_one r.answer (Err x) y.answer
     ran_read (good qs) e y =
         let few : length qs ≤ length part = few_requests (length part) s.catalogue.0 part qs e in
         let ran = rw (le-leb (0 + length qs) requests_most (omega (arith, h.given.short)), le-leb (2 * length qs + 0) (length told) (omega (arith, h.given.short, h.events))) at y in
@@ -131,8 +130,15 @@ module _ (s : Settings) (part told : List ℕ) (h : OwnSized s part told) (t : T
         let j : Judges (fresh_tally s) u told r w told' part = rw (l, long_after, eq-eqb s.unit.0 s.unit.0 refl) at y in
         record { ran = ran_read (read_of (length part) s.catalogue.0 part) refl (j.sound (freshly_sound s t d u f h.given.ranged (long_is _ _ t k)).1) }
 
-    pub ran_own : (a : Tally) → a ≡ fresh_tally s → Carries a u told r w told' s.unit.0 part → Ran s part told r told'
-    ran_own a e y = ran_fresh (subst (λ (b : Tally). Carries b u told r w told' s.unit.0 part) e y)
+  -- the start is done, with a fresh tally, and what is carried on from it is the run
+  pub not_refused : (x : Refusal) → d ≡ Err x → ⊥
+  not_refused x e = let z : ◌≡◌ {A = Result Tally Refusal} (Err x) (Ok (fresh_tally s)) = sym e ∙ begun.0 in let n : ◌≡◌ {A = ℕ} 0 1 = cc in absurd (omega arith)
+
+  pub ran_own : (a : Tally) → d ≡ Ok a → (r : Result Ended Refusal) (w : Tables) (told' : List ℕ) → Carries a u told (carried a r) w told' s.unit.0 part → Ran s part told (carried (fresh_tally s) r) told'
+  ran_own a e r w told' y =
+      let z : ◌≡◌ {A = Result Tally Refusal} (Ok a) (Ok (fresh_tally s)) = sym e ∙ begun.0 in
+      let same : a ≡ fresh_tally s = cc in
+      ran_fresh (carried (fresh_tally s) r) w told' (subst (λ (b : Tally). Carries b u told (carried b r) w told' s.unit.0 part) same y)
 
 -- tables of the program's own lengths are long enough
 pub own_long : (s : Settings) (part told : List ℕ) → OwnSized s part told → (p c : ℕ) → own_places ≤ p → own_catalogue ≤ c

@@ -6,6 +6,7 @@ use native.Mathlib.Omega.{arith}
 use borrow.Author.Tests.{le-leb, lt-leb}
 use lib.ListN.{length, take, drop, replicate, length-drop, length-replicate}
 use lib.Seq.{sets-eq, length-sets, take_all, take_at}
+use Rattle.std.specs.Prelude.{Result, Ok, Err}
 use Rattle.amounts.specs.declared.settings.Settings.{Settings}
 use Rattle.amounts.proofs.Tests.{pick_true, pick_false}
 use Rattle.card.specs.Card.{done, card_of}
@@ -14,21 +15,18 @@ use Rattle.card.specs.declared.Refusal.TheVariants.{Room}
 use Rattle.trace.specs.Reading.{Read, good, stop, read_of, Opened, opened, shut, settings_of}
 use Rattle.trace.specs.Stores.{Roomy, Laid}
 use Rattle.trace.specs.Cards.{opening_card, opening_answer}
-use Rattle.trace.specs.declared.answer.Answer.TheVariants.{Done, Refused}
-use Rattle.trace.specs.declared.answer.Start as start
 use Rattle.trace.proofs.Answers.{start_shut, start_at}
 use Rattle.trace.proofs.Taking.{five}
 use Rattle.trace.proofs.Laying.{laid_over}
 use Rattle.trace.proofs.RoundTrip.{part_ranged}
-use Rattle.replay.specs.declared.carry.Carried.{Carried}
 use Rattle.layout.specs.Sheet.{input_most, own_places, own_catalogue, own_events, sheet_most, ran_events, of_read, of_file, sheet_of}
 use Rattle.lines.specs.Lines.{refused_line, page}
 use Rattle.layout.specs.Steps.{Given, OwnSized, RanOn, Ran, Ample}
-use Rattle.lines.specs.Laying.{Copies, Events}
 use Rattle.layout.specs.Promise.{Sheeted}
 use Rattle.lines.proofs.Items.{laid_long}
 use Rattle.layout.proofs.Running.{few_requests, few_events}
 use Rattle.layout.proofs.Fitting.{refused_short, read_fits, sheet_fits}
+use Rattle.replay.specs.Carrying.{Carried}
 
 -- what was laid at the front is there to take
 take_laid : (vs list list' : List ℕ) (n : ℕ) → length vs ≤ length list → Laid vs 0 list list' n → take n list' ≡ vs
@@ -61,7 +59,7 @@ module _ (s : Settings) (part : List ℕ) where
     within = rw (le-leb s.places.0 own_places h.places, le-leb s.catalogue.0 own_catalogue h.catalogue)
 
     module _ (r : Carried) (told' : List ℕ) (p : Ran s part told r told') where
-      pub ran_refused : (x : Refusal) → r.answer ≡ Refused x → of_file (opened s part) ≡ refused_line (card_of x).number
+      pub ran_refused : (x : Refusal) → r.answer ≡ Err x → of_file (opened s part) ≡ refused_line (card_of x).number
       ran_refused x e = within ∙ go (read_of (length part) s.catalogue.0 part) p.ran
         where
           go : (z : Read) → RanOn s told r told' z → of_read s z ≡ refused_line (card_of x).number
@@ -70,11 +68,11 @@ module _ (s : Settings) (part : List ℕ) where
 
       -- the page of what a run that is done has left
       pub record Paged (count : ℕ) : Type 0 where
-        pub many : Events told' count
+        pub many : count ≤ length told'
         pub same : page r.tally (take count told') ≡ of_file (opened s part)
         pub short : length (page r.tally (take count told')) ≤ sheet_most
 
-      pub ran_done : (count : ℕ) → r.answer ≡ Done count → Paged count
+      pub ran_done : (count : ℕ) → r.answer ≡ Ok count → Paged count
       ran_done count e = go (read_of (length part) s.catalogue.0 part) refl p.ran
         where
           go : (z : Read) → read_of (length part) s.catalogue.0 part ≡ z → RanOn s told r told' z → Paged count
@@ -88,7 +86,7 @@ module _ (s : Settings) (part : List ℕ) where
               let same : page r.tally (take count told') ≡ of_read s (good qs) =
               (λ j. page (q.1 j) (take_laid es told told' count few (record { placed = q.2; ends = omega arith }) j)) in
               record {
-                many = record { many = omega (arith, n, few, ap length q.2, length-sets told 0 es) };
+                many = omega (arith, n, few, ap length q.2, length-sets told 0 es);
                 same = same ∙ sym (within ∙ ap (of_read s) i);
                 short = rw same (read_fits s part h.given (good qs) i);
               }
@@ -100,15 +98,15 @@ module _ (trace : List ℕ) where
   unfolding sheet_of
   too_long h = rw (lt-leb (length trace) input_most h)
 
-  module _ (h : length trace ≤ input_most) (r : start.Start) (a : opening_card r ≡ opening_answer trace) where
+  module _ (h : length trace ≤ input_most) (r : Result (Settings × ℕ) Refusal) (a : opening_card r ≡ opening_answer trace) where
     begins : (x : Opened) → settings_of (length trace) trace ≡ x → sheet_of trace ≡ of_file x
     unfolding sheet_of
     begins x e = rw (le-leb (length trace) input_most h, e)
 
-    pub start_refused : (x : Refusal) → r ≡ start.TheVariants.Refused x → sheet_of trace ≡ refused_line (card_of x).number
+    pub start_refused : (x : Refusal) → r ≡ Err x → sheet_of trace ≡ refused_line (card_of x).number
     start_refused x e = begins (shut x) (start_shut trace r x a e)
 
-    module _ (s : Settings) (at : ℕ) (e : r ≡ start.TheVariants.At s at) where
+    module _ (s : Settings) (at : ℕ) (e : r ≡ Ok (s, at)) where
       found : (at ≤ length trace) × (settings_of (length trace) trace ≡ opened s (drop at trace))
       found = start_at trace r s at a e
 
@@ -128,7 +126,7 @@ module _ (trace : List ℕ) where
 -- ---- the answer
 
 module _ (trace text text' : List ℕ) (count : ℕ) (p : Laid (sheet_of trace) 0 text text' count) (a : Ample text) (out : List ℕ) where
-  pub sheet_short : length out < count → Sheeted trace out (Refused Room) out
+  pub sheet_short : length out < count → Sheeted trace out (Err Room) out
   sheet_short h =
       let e = lt-leb (length (sheet_of trace)) (length out) (omega (arith, h, p.ends)) in
       record { answer = sym (pick_false _ _ e); buffer = sym (pick_false _ _ e) }
@@ -136,14 +134,13 @@ module _ (trace text text' : List ℕ) (count : ℕ) (p : Laid (sheet_of trace) 
   taken : take count text' ≡ sheet_of trace
   taken = take_laid (sheet_of trace) text text' count (omega (arith, sheet_fits trace, a.room)) p
 
-  pub sheet_copies : count ≤ length out → Copies text' count 0 out
-  sheet_copies h =
-      record {
-        many = omega (arith, p.ends, sheet_fits trace, a.room, laid_long _ _ _ _ _ p);
-        room = record { room = omega (arith, h, p.ends, ap length taken) };
-      }
+  pub sheet_inside : count ≤ length text'
+  sheet_inside = omega (arith, p.ends, sheet_fits trace, a.room, laid_long _ _ _ _ _ p)
 
-  pub sheet_done : count ≤ length out → (out' : List ℕ) (at : ℕ) → Laid (take count text') 0 out out' at → Sheeted trace out (Done count) out'
+  pub sheet_copies : count ≤ length out → Roomy (take count text') 0 out
+  sheet_copies h = record { room = omega (arith, h, p.ends, ap length taken) }
+
+  pub sheet_done : count ≤ length out → (out' : List ℕ) (at : ℕ) → Laid (take count text') 0 out out' at → Sheeted trace out (Ok count) out'
   sheet_done h out' at q =
       let e = le-leb (length (sheet_of trace)) (length out) (omega (arith, h, p.ends)) in
       let n : count ≡ length (sheet_of trace) = omega (arith, p.ends) in

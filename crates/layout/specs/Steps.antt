@@ -1,12 +1,11 @@
 -- What the functions below the entry point ask and promise. Assumes nothing.
-use Rattle.std.specs.Prelude.{ℕ, ◌≤◌, ◌≡◌, true, List, length}
+use Rattle.std.specs.Prelude.{ℕ, ◌≤◌, ◌≡◌, true, List, length, Ok, Err}
 use Rattle.std.proofs.lemmas.List.Edits.{sets}
 use Rattle.amounts.specs.Settings.{in_range}
 use Rattle.amounts.specs.declared.settings.Settings.{Settings}
 use Rattle.trace.specs.Reading.{Read, good, stop, read_of}
-use Rattle.trace.specs.declared.answer.Answer.TheVariants.{Done, Refused}
-use Rattle.replay.specs.declared.carry.Carried.{Carried}
 use Rattle.layout.specs.Sheet.{input_most, own_places, own_catalogue, own_events, sheet_most, ran_tally, ran_events}
+use Rattle.replay.specs.Carrying.{Carried}
 
 -- settings and requests of a trace that the program takes
 pub record Given (s : Settings) (part : List ℕ) : Type 0 where
@@ -22,9 +21,9 @@ pub record OwnSized (s : Settings) (part told : List ℕ) : Type 0 where
 
 -- r and told' are the run over the requests that were read, or the refusal
 abbrev pub RanOn : Settings → List ℕ → Carried → List ℕ → Read → Type 0
-RanOn s told r told' (stop x) = r.answer ≡ Refused x
+RanOn s told r told' (stop x) = r.answer ≡ Err x
 RanOn s told r told' (good qs) =
-    (r.answer ≡ Done (length (ran_events s qs))) × (r.tally ≡ ran_tally s qs) × (told' ≡ sets told 0 (ran_events s qs))
+    (r.answer ≡ Ok (length (ran_events s qs))) × (r.tally ≡ ran_tally s qs) × (told' ≡ sets told 0 (ran_events s qs))
 
 pub record Ran (s : Settings) (part told : List ℕ) (r : Carried) (told' : List ℕ) : Type 0 where
   pub ran : RanOn s told r told' (read_of (length part) s.catalogue.0 part)

@@ -1,9 +1,13 @@
 // A run from a fresh start, over tables of the call's own.
+ghost use Rattle.tables.specs.Tally.{fresh_tally};
+ghost use Rattle.replay.specs.Carrying.{carried};
 ghost use Rattle.layout.specs.Steps.{OwnSized, Ran};
 
 use amounts::Settings;
-use replay::{Carried, carry_on};
-use tables::{Tally, fresh};
+use card::Refusal;
+use parts::Ended;
+use replay::carry_on;
+use tables::fresh;
 
 // The program's own tables.
 pub(crate) const OWN_PLACES: usize = 512;
@@ -11,9 +15,13 @@ pub(crate) const OWN_PLACES: usize = 512;
 pub(crate) const OWN_CATALOGUE: usize = 4096;
 
 // The run over the requests of a part: the answer with the tally, and the events in a list. The fresh start is not refused: settings and lengths are in order.
-pub(crate) fn run_into(settings: Settings, part: &[u8], events: &mut [u32]) -> Carried
+pub(crate) fn run_into(
+    settings: Settings,
+    part: &[u8],
+    events: &mut [u32],
+) -> Result<Ended, Refusal>
     requires { OwnSized settings part.now events.old }
-    ensures { Ran settings part.now events.old result events.new }
+    ensures { Ran settings part.now events.old (carried (fresh_tally settings) result) events.new }
 {
     let mut place = [0u16; OWN_CATALOGUE];
     let mut file = [0u16; OWN_PLACES];
@@ -23,14 +31,13 @@ pub(crate) fn run_into(settings: Settings, part: &[u8], events: &mut [u32]) -> C
     let mut key = [0u64; OWN_PLACES];
     let mut stamp = [0u64; OWN_PLACES];
     let mut queue = [0u16; OWN_PLACES];
-    fresh(
+    let begun = fresh(
         settings, &mut place, &mut file, &mut size, &mut cost, &mut freq, &mut key, &mut stamp,
         &mut queue,
-    );
-    let unit = settings.unit;
+    )?;
     carry_on(
-        unit,
-        Tally::new(settings),
+        settings.unit,
+        begun,
         &mut place,
         &mut file,
         &mut size,

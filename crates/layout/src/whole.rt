@@ -1,4 +1,5 @@
 // The sheet of a trace, from its bytes.
+ghost use Rattle.card.specs.Card.{card_of};
 ghost use Rattle.trace.specs.Stores.{Laid};
 ghost use Rattle.trace.specs.Reading.{opened};
 ghost use Rattle.layout.specs.Sheet.{of_file, sheet_of};
@@ -10,7 +11,7 @@ use crate::run::{OWN_CATALOGUE, OWN_PLACES, run_into};
 use amounts::Settings;
 use card::Refusal;
 use lines::{put_bytes, put_item, put_page};
-use trace::{Answer, Start, settings_at};
+use trace::settings_at;
 
 // The most bytes of input.
 pub const INPUT_MOST: usize = 16384;
@@ -20,11 +21,11 @@ const OWN_EVENTS: usize = 32768;
 pub const SHEET_MOST: usize = 393629;
 
 // The line of a refusal, over the front of a text; its length.
-fn put_refused(number: u64, text: &mut [u8]) -> usize
+fn put_refused(refusal: Refusal, text: &mut [u8]) -> usize
     requires { Ample text.old }
-    ensures { Laid (refused_line number) 0 text.old text.new result }
+    ensures { Laid (refused_line (card_of refusal).number) 0 text.old text.new result }
 {
-    put_item(b"refused", number, b'\n', text, 0)
+    put_item(b"refused", refusal.number(), b'\n', text, 0)
 }
 
 // The sheet of settings and the part after them, over the front of a text; its length.
@@ -34,20 +35,15 @@ fn put_file(settings: Settings, part: &[u8], text: &mut [u8]) -> usize
     ensures { Laid (of_file (opened settings part.now)) 0 text.old text.new result }
 {
     if OWN_PLACES < settings.places.count() {
-        return put_refused(2, text);
+        return put_refused(Refusal::Short, text);
     }
     if OWN_CATALOGUE < settings.catalogue.count() {
-        return put_refused(2, text);
+        return put_refused(Refusal::Short, text);
     }
     let mut events = [0u32; OWN_EVENTS];
-    let ran = run_into(settings, part, &mut events);
-    let answer = ran.answer;
-    match answer {
-        Answer::Refused(x) => put_refused(x.number(), text),
-        Answer::Done(count) => {
-            let tally = ran.tally;
-            put_page(tally, &events, count, text)
-        }
+    match run_into(settings, part, &mut events) {
+        Err(refusal) => put_refused(refusal, text),
+        Ok(ended) => put_page(ended.tally, &events[..ended.events], text),
     }
 }
 
@@ -57,24 +53,23 @@ fn put_sheet(trace: &[u8], text: &mut [u8]) -> usize
     ensures { Laid (sheet_of trace.now) 0 text.old text.new result }
 {
     if INPUT_MOST < trace.len() {
-        return put_refused(9, text);
+        return put_refused(Refusal::TooLong, text);
     }
-    let start = settings_at(trace);
-    match start {
-        Start::Refused(x) => put_refused(x.number(), text),
-        Start::At(settings, at) => put_file(settings, &trace[at..], text),
+    match settings_at(trace) {
+        Err(refusal) => put_refused(refusal, text),
+        Ok((settings, at)) => put_file(settings, &trace[at..], text),
     }
 }
 
 // The sheet of a trace, into the front of `out`.
-pub fn sheet(trace: &[u8], out: &mut [u8]) -> Answer
+pub fn sheet(trace: &[u8], out: &mut [u8]) -> Result<usize, Refusal>
     ensures { Sheeted trace.now out.old result out.new }
 {
     let mut text = [0u8; SHEET_MOST];
     let count = put_sheet(trace, &mut text);
     if out.len() < count {
-        return Answer::Refused(Refusal::Room);
+        return Err(Refusal::Room);
     }
-    put_bytes(&text, count, out, 0);
-    Answer::Done(count)
+    put_bytes(&text[..count], out, 0);
+    Ok(count)
 }

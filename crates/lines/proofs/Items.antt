@@ -4,8 +4,8 @@ use mathlib.Core.Path.{◌≡◌, refl, ap, sym, subst, ◌∙◌}
 use mathlib.Core.List.{List, [], ◌∷◌, ◌++◌}
 use native.Mathlib.Omega.{arith}
 use borrow.Author.Tests.{eq-eqb, ne_eqb}
-use lib.ListN.{length, take, set, length-set}
-use lib.Seq.{take-length, length-sets}
+use lib.ListN.{length, set, length-set}
+use lib.Seq.{length-sets}
 use Rattle.amounts.specs.Limits.{catalogue_most}
 use Rattle.method.specs.Events.{event}
 use Rattle.trace.specs.Stores.{Roomy, Laid}
@@ -14,7 +14,6 @@ use Rattle.lines.specs.Decimal.{decimal}
 use Rattle.lines.specs.Words as word
 use Rattle.lines.specs.Words.{space, line_feed}
 use Rattle.lines.specs.Lines.{item, kind_word, event_line}
-use Rattle.lines.specs.Laying.{Copies}
 
 -- what is laid leaves the list as long as it was
 pub laid_long : (bs : List ℕ) (at : ℕ) (out out' : List ℕ) (r : ℕ) → Laid bs at out out' r → length out' ≡ length out
@@ -40,13 +39,10 @@ module _ (w : List ℕ) (n end at : ℕ) (out : List ℕ) (r : Roomy (item w n e
   unfolding item
   spread = r
 
-  pub item_word : Copies w (length w) at out
-  item_word = record { many = omega arith; room = rw take-length (roomy_front w _ at out spread) }
+  pub item_word : Roomy w at out
+  item_word = roomy_front w _ at out spread
 
-  module _ (out₁ : List ℕ) (at₁ : ℕ) (p : Laid (take (length w) w) at out out₁ at₁) where
-    word_laid : Laid w at out out₁ at₁
-    word_laid = subst (λ (bs : List ℕ). Laid bs at out out₁ at₁) (take-length w) p
-
+  module _ (out₁ : List ℕ) (at₁ : ℕ) (word_laid : Laid w at out out₁ at₁) where
     room₁ : Roomy ((space ∷ []) ++ after) at₁ out₁
     room₁ = roomy_next w _ at out out₁ at₁ word_laid spread
 
@@ -81,39 +77,3 @@ event_read k f h =
     let d : (k * catalogue_most + f) / catalogue_most ≡ k = omega arith in
     let m : (k * catalogue_most + f) % catalogue_most ≡ f = omega arith in
     λ i. item (kind_word (d i)) (m i) line_feed
-
--- the line of each kind
-module _ (e : ℕ) where
-  abbrev kind : ℕ
-  kind = e / catalogue_most
-
-  abbrev pub Line : List ℕ → Type 0
-  Line w = event_line e ≡ item w (e % catalogue_most) line_feed
-
-  pub hit_line : kind ≡ 1 → Line word.hit
-  unfolding kind_word
-  hit_line h = rw (eq-eqb kind 1 h)
-
-  module _ (h₁ : kind ≡ 1 → ⊥) where
-    pub admit_line : kind ≡ 2 → Line word.admit
-    unfolding kind_word
-    admit_line h = rw (ne_eqb kind 1 h₁, eq-eqb kind 2 h)
-
-    module _ (h₂ : kind ≡ 2 → ⊥) where
-      pub big_line : kind ≡ 3 → Line word.big
-      unfolding kind_word
-      big_line h = rw (ne_eqb kind 1 h₁, ne_eqb kind 2 h₂, eq-eqb kind 3 h)
-
-      module _ (h₃ : kind ≡ 3 → ⊥) where
-        pub low_line : kind ≡ 4 → Line word.low
-        unfolding kind_word
-        low_line h = rw (ne_eqb kind 1 h₁, ne_eqb kind 2 h₂, ne_eqb kind 3 h₃, eq-eqb kind 4 h)
-
-        module _ (h₄ : kind ≡ 4 → ⊥) where
-          pub stale_line : kind ≡ 6 → Line word.stale
-          unfolding kind_word
-          stale_line h = rw (ne_eqb kind 1 h₁, ne_eqb kind 2 h₂, ne_eqb kind 3 h₃, ne_eqb kind 4 h₄, eq-eqb kind 6 h)
-
-          pub evict_line : (kind ≡ 6 → ⊥) → Line word.evict
-          unfolding kind_word
-          evict_line h₆ = rw (ne_eqb kind 1 h₁, ne_eqb kind 2 h₂, ne_eqb kind 3 h₃, ne_eqb kind 4 h₄, ne_eqb kind 6 h₆)

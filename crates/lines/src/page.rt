@@ -1,23 +1,18 @@
 // The page of a run: its unit, its events, its tally.
-ghost use Rattle.std.specs.Prelude.{take};
 ghost use Rattle.trace.specs.Stores.{Roomy, Laid};
 ghost use Rattle.lines.specs.Lines.{event_lines, counts_line, asked_line, last_line, page};
-ghost use Rattle.lines.specs.Laying.{Events};
 
 use crate::line::{put_event, put_item};
 use tables::Tally;
 
-// The lines of the first events of a list, from a place on; the place after them.
-fn put_events(events: &[u32], count: usize, out: &mut [u8], from: usize) -> usize
-    requires events { Events events.now count }
-    requires roomy { Roomy (event_lines (take count events.now)) from out.old }
-    ensures { Laid (event_lines (take count events.now)) from out.old out.new result }
+// The lines of events, from a place on; the place after them.
+fn put_events(events: &[u32], out: &mut [u8], from: usize) -> usize
+    requires { Roomy (event_lines events.now) from out.old }
+    ensures { Laid (event_lines events.now) from out.old out.new result }
 {
     let mut at = from;
-    let mut i: usize = 0;
-    while i < count {
-        at = put_event(events[i], out, at);
-        i += 1;
+    for event in events {
+        at = put_event(*event, out, at);
     }
     at
 }
@@ -56,13 +51,12 @@ fn put_last(a: Tally, out: &mut [u8], at: usize) -> usize
 }
 
 // The whole page, over the front of a text; its length.
-pub fn put_page(a: Tally, events: &[u32], count: usize, out: &mut [u8]) -> usize
-    requires events { Events events.now count }
-    requires roomy { Roomy (page a (take count events.now)) 0 out.old }
-    ensures { Laid (page a (take count events.now)) 0 out.old out.new result }
+pub fn put_page(a: Tally, events: &[u32], out: &mut [u8]) -> usize
+    requires { Roomy (page a events.now) 0 out.old }
+    ensures { Laid (page a events.now) 0 out.old out.new result }
 {
     let at_events = put_item(b"unit", a.settings.unit.0, b'\n', out, 0);
-    let at_counts = put_events(events, count, out, at_events);
+    let at_counts = put_events(events, out, at_events);
     let at_bytes = put_counts(a, out, at_counts);
     let at_costs = put_asked(
         b"bytes",

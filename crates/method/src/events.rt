@@ -6,31 +6,65 @@ ghost use Rattle.method.specs.Events as events;
 use crate::outcome::{Outcome, Pass};
 use amounts::Catalogue;
 
-// The kinds.
-pub const HIT: u32 = 1;
+// What an entry tells of its file.
+#[derive(Clone, Copy, Debug, PartialEq, Eq)]
+pub enum Kind {
+    Hit,
+    Admit,
+    Big,
+    Low,
+    Evict,
+    Stale,
+}
 
-pub const ADMIT: u32 = 2;
+// The number that the list holds for a kind.
+impl From<Kind> for u32 {
+    ghost from_gives = { λ kind result. result ≡ events.number_of kind };
 
-pub const BIG: u32 = 3;
+    fn from(kind: Kind) -> u32 {
+        match kind {
+            Kind::Hit => 1,
+            Kind::Admit => 2,
+            Kind::Big => 3,
+            Kind::Low => 4,
+            Kind::Evict => 5,
+            Kind::Stale => 6,
+        }
+    }
+}
 
-pub const LOW: u32 = 4;
+// A number that stands for no kind.
+#[derive(Clone, Copy, Debug, PartialEq, Eq)]
+pub struct UnknownKind(pub u32);
 
-pub const EVICT: u32 = 5;
+impl TryFrom<u32> for Kind {
+    type Error = UnknownKind;
 
-pub const STALE: u32 = 6;
+    ghost try_from_gives = { events.Names };
+
+    fn try_from(number: u32) -> Result<Self, UnknownKind> {
+        match number {
+            1 => Ok(Kind::Hit),
+            2 => Ok(Kind::Admit),
+            3 => Ok(Kind::Big),
+            4 => Ok(Kind::Low),
+            5 => Ok(Kind::Evict),
+            6 => Ok(Kind::Stale),
+            _ => Err(UnknownKind(number)),
+        }
+    }
+}
 
 impl Outcome {
     // The kind of a request's own entry.
-    pub fn kind(self) -> u32
-        ensures { result ≡ events.kind self }
+    pub fn kind(self) -> Kind
+        ensures { events.number_of result ≡ events.kind self }
     {
         match self {
-            Outcome::Hit => HIT,
-            Outcome::Admitted => ADMIT,
-            Outcome::Passed(why) => match why {
-                Pass::TooBig => BIG,
-                Pass::LowKey => LOW,
-            },
+            Outcome::Hit => Kind::Hit,
+            Outcome::Admitted => Kind::Admit,
+            Outcome::Passed(Pass::TooBig) => Kind::Big,
+            Outcome::Passed(Pass::LowKey) => Kind::Low,
         }
     }
 }

@@ -4,5 +4,5 @@
 mod events;
 mod outcome;
 
-pub use events::{ADMIT, BIG, EVICT, HIT, LOW, STALE, event};
+pub use events::{Kind, UnknownKind, event};
 pub use outcome::{Outcome, Pass};

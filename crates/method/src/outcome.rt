@@ -1,13 +1,13 @@
 // How a request ended.
 
 // Why a file that was asked for is not kept: larger than the store, or among the lowest itself.
-#[derive(Clone, Copy)]
+#[derive(Clone, Copy, Debug, PartialEq, Eq)]
 pub enum Pass {
     TooBig,
     LowKey,
 }
 
-#[derive(Clone, Copy)]
+#[derive(Clone, Copy, Debug, PartialEq, Eq)]
 pub enum Outcome {
     Hit,
     Admitted,

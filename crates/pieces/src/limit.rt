@@ -1,11 +1,10 @@
 // 4,294,967,295 requests pass; one more is 5.
 use crate::sheets::settings;
 use amounts::{Bytes, Cost, Places, Requests, Settings};
-use replay::{Carried, carry_on};
+use replay::carry_on;
 use std::io;
 use std::io::Print;
 use tables::Tally;
-use trace::Answer;
 
 // One request short of the run limit.
 const BEFORE: u64 = Requests::MOST - 1;
@@ -15,17 +14,16 @@ const BIG: u64 = 101;
 
 // The tally of a run that passed all its requests, each too big at cost 1, and has room for one more.
 fn before_limit(chosen: Settings) -> Tally {
-    let mut t = Tally::new(chosen);
-    let asked = Bytes(BEFORE * BIG);
-    let cost = Cost(BEFORE);
-    t.requests = BEFORE;
-    t.passed = BEFORE;
-    t.bytes_asked = asked;
-    t.cost_asked = cost;
-    t
+    Tally {
+        requests: BEFORE,
+        passed: BEFORE,
+        bytes_asked: Bytes(BEFORE * BIG),
+        cost_asked: Cost(BEFORE),
+        ..Tally::new(chosen)
+    }
 }
 
-// The part twice, one turn up to the run limit and one past it: the last answer, and the tally.
+// The part twice, one turn up to the run limit and one past it: the tally, and the number of the last answer, 0 where it is done.
 fn over_limit(
     begun: Tally,
     place: &mut [u16],
@@ -38,34 +36,26 @@ fn over_limit(
     queue: &mut [u16],
     part: &[u8],
     events: &mut [u32],
-) -> Carried {
-    let nothing = Answer::Done(0);
-    let mut ran = Carried {
-        answer: nothing,
-        tally: begun,
-    };
-    let mut i: u64 = 0;
-    while i < 2 {
-        let t = ran.tally;
-        let unit = t.settings.unit;
-        ran = carry_on(
-            unit, t, place, file, size, cost, freq, key, stamp, queue, part, events,
+) -> (Tally, u64) {
+    let mut tally = begun;
+    let mut number = 0;
+    for _ in 0..2 {
+        let ran = carry_on(
+            tally.settings.unit, tally, place, file, size, cost, freq, key, stamp, queue, part, events,
         );
-        i += 1;
+        match ran {
+            Ok(ended) => {
+                tally = ended.tally;
+                number = 0;
+            }
+            Err(refusal) => number = refusal.number(),
+        }
     }
-    ran
+    (tally, number)
 }
 
 fn print_line(rt: &impl Print, word: &str, n: u64) -> io::Result<()> {
     println!(rt; "{word} {n}")
-}
-
-// The number of an answer, 0 where it is done.
-fn number_of(answer: Answer) -> u64 {
-    match answer {
-        Answer::Done(_) => 0,
-        Answer::Refused(x) => x.number(),
-    }
 }
 
 // The same over tables of its own, which such a run leaves as a fresh start does; file 1 of size 1 and cost 1 is asked for.
@@ -80,9 +70,8 @@ pub(crate) fn run_limit(rt: &impl Print) -> io::Result<()> {
     let mut queue = [0u16; 1];
     let part = [1u8; 3];
     let mut events = [0u32; 3];
-    let chosen = settings(3, 100, 1);
-    let ran = over_limit(
-        before_limit(chosen),
+    let (tally, number) = over_limit(
+        before_limit(settings(3, 100, 1)),
         &mut place,
         &mut file,
         &mut size,
@@ -94,10 +83,8 @@ pub(crate) fn run_limit(rt: &impl Print) -> io::Result<()> {
         &part,
         &mut events,
     );
-    let t = ran.tally;
-    print_line(rt, "requests", t.requests)?;
-    print_line(rt, "admitted", t.admitted)?;
-    print_line(rt, "passed", t.passed)?;
-    let answer = ran.answer;
-    print_line(rt, "refused", number_of(answer))
+    print_line(rt, "requests", tally.requests)?;
+    print_line(rt, "admitted", tally.admitted)?;
+    print_line(rt, "passed", tally.passed)?;
+    print_line(rt, "refused", number)
 }

@@ -2,21 +2,15 @@
 use amounts::{Bytes, Catalogue, Places, Policy, Settings, Unit};
 use std::io;
 use std::io::Print;
-use trace::Answer;
 
 // Settings of policy 1 with a catalogue of four.
 pub(crate) fn settings(unit: u64, capacity: u64, places: u64) -> Settings {
-    let unit = Unit(unit);
-    let policy = Policy(Policy::SIZE);
-    let capacity = Bytes(capacity);
-    let places = Places(places);
-    let catalogue = Catalogue(4);
     Settings {
-        unit,
-        policy,
-        capacity,
-        places,
-        catalogue,
+        unit: Unit(unit),
+        policy: Policy(Policy::SIZE),
+        capacity: Bytes(capacity),
+        places: Places(places),
+        catalogue: Catalogue(4),
     }
 }
 
@@ -29,23 +23,18 @@ fn print_sheet(
     costs: &[u16],
 ) -> io::Result<()> {
     let mut bytes = [0u8; 64];
-    let written = writer::write_file(settings, files, sizes, costs, &mut bytes);
-    match written {
-        Answer::Refused(_) => Ok(()),
-        Answer::Done(count) => print_bytes(rt, &bytes, count),
+    match writer::write_file(settings, files, sizes, costs, &mut bytes) {
+        Ok(count) if count <= bytes.len() => print_bytes(rt, &bytes[..count]),
+        _ => Ok(()),
     }
 }
 
-// Prints the sheet of the first bytes of a trace.
-fn print_bytes(rt: &impl Print, bytes: &[u8], count: usize) -> io::Result<()> {
-    if bytes.len() < count {
-        return Ok(());
-    }
+// Prints the sheet of a trace.
+fn print_bytes(rt: &impl Print, trace: &[u8]) -> io::Result<()> {
     let mut out = [0u8; 1024];
-    let laid = layout::sheet(&bytes[..count], &mut out);
-    match laid {
-        Answer::Refused(_) => Ok(()),
-        Answer::Done(length) => rt.write_all(&out[..length]),
+    match layout::sheet(trace, &mut out) {
+        Ok(length) => rt.write_all(&out[..length]),
+        Err(_) => Ok(()),
     }
 }
 

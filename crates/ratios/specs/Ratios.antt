@@ -1,12 +1,11 @@
 -- Both ratios of a tally, or why there are none (document 02, tickets 3 and 5). Assumes nothing.
-use Rattle.std.specs.Prelude.{◌≡◌, List, [], ◌∷◌, ◌≤◌, ◌<◌, Float}
+use Rattle.std.specs.Prelude.{◌≡◌, List, [], ◌∷◌, ◌≤◌, ◌<◌, Float, Result, Ok, Err}
 use Rattle.card.specs.Card.{Card, done, refused, card_of}
+use Rattle.card.specs.declared.Refusal.{Refusal}
 use Rattle.tables.specs.Sound.{Counted}
 use Rattle.tables.specs.declared.tally.Tally.{Tally}
 use Rattle.ratios.specs.Quotient.{exact_most, quotient, Part}
 use Rattle.ratios.specs.declared.answer.Ratios.{Ratios}
-use Rattle.ratios.specs.declared.answer.Rated.{Rated}
-use Rattle.ratios.specs.declared.answer.Rated.TheVariants.{Done, Refused}
 
 -- document 02, ticket 3: hits by requests and hit bytes by bytes asked
 abbrev pub ratios_of : Tally → Ratios
@@ -35,9 +34,9 @@ abbrev pub refusing : Card → RatioCard
 refusing c = record { card = c; doubles = [] }
 
 -- document 01, "The forms we use": the number and values of each case of an answer
-abbrev pub ratio_card : Rated → RatioCard
-ratio_card (Done x) = giving x
-ratio_card (Refused r) = refusing (card_of r)
+abbrev pub ratio_card : Result Ratios Refusal → RatioCard
+ratio_card (Ok x) = giving x
+ratio_card (Err r) = refusing (card_of r)
 
 -- document 02, ticket 3: 11 when there are no requests, before any other test; then 7 when the tally breaks soundness on the sum to requests, bytes asked or hit bytes
 -- document 02, ticket 5: then 12 with bytes asked above 9,007,199,254,740,992; else the record

@@ -10,16 +10,10 @@ use totals::counts_agree;
 // 2 to the 53rd, up to which a double has every count exactly.
 const EXACT: u64 = 9007199254740992;
 
-#[derive(Clone, Copy)]
+#[derive(Clone, Copy, Debug)]
 pub struct Ratios {
     pub hits: f64,
     pub bytes: f64,
-}
-
-#[derive(Clone, Copy)]
-pub enum Rated {
-    Done(Ratios),
-    Refused(Refusal),
 }
 
 // Hits by requests and hit bytes by bytes asked, of a tally that has both.
@@ -30,24 +24,24 @@ fn both(a: Tally) -> Ratios
     let hits = ratio(a.hits, a.requests);
     let bytes = ratio(a.hit_bytes.0, a.bytes_asked.0);
     Ratios {
-        hits: hits,
-        bytes: bytes,
+        hits,
+        bytes,
     }
 }
 
 // Both ratios of any tally: refused where it has no requests, then where its requests or bytes can't be those of a run, then where its bytes are no double.
-pub fn ratios_of(a: Tally) -> Rated
+pub fn ratios_of(a: Tally) -> Result<Ratios, Refusal>
     ensures { Rates a (ratio_card result) }
 {
     if a.requests == 0 {
-        return Rated::Refused(Refusal::NoRequests);
+        return Err(Refusal::NoRequests);
     }
     if !counts_agree(a) {
-        return Rated::Refused(Refusal::Unsound);
+        return Err(Refusal::Unsound);
     }
     if EXACT < a.bytes_asked.0 {
-        return Rated::Refused(Refusal::Inexact);
+        return Err(Refusal::Inexact);
     }
     let ratios = both(a);
-    Rated::Done(ratios)
+    Ok(ratios)
 }

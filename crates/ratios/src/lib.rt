@@ -4,4 +4,4 @@
 mod answer;
 mod division;
 
-pub use answer::{Rated, Ratios, ratios_of};
+pub use answer::{Ratios, ratios_of};

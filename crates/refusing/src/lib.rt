@@ -5,4 +5,4 @@ mod part;
 mod settings;
 
 pub use part::room_for;
-pub use settings::{Settled, judge_settings};
+pub use settings::judge_settings;

@@ -5,30 +5,27 @@ ghost use Rattle.refusing.specs.Judging.{Judgeable, roomed, fitting};
 use amounts::Requests;
 use card::Refusal;
 use tables::Tally;
-use trace::{Answer, scan};
+use trace::scan;
 
 // Whether so many requests have room in the run and in the event list: 5, then 6.
-fn has_room(a: Tally, count: usize, told: usize) -> Answer
+fn has_room(a: Tally, count: usize, told: usize) -> Result<usize, Refusal>
     requires { Judgeable a }
     ensures { result ≡ roomed a count told }
 {
     if !Requests(a.requests).leave_room(count as u64) {
-        return Answer::Refused(Refusal::TooMany);
+        return Err(Refusal::TooMany);
     }
     if told < 2 * count + a.files_kept as usize {
-        return Answer::Refused(Refusal::Room);
+        return Err(Refusal::Room);
     }
-    Answer::Done(count)
+    Ok(count)
 }
 
 // How many requests the part has, where it is good and has room: 3 and 4 by place, then 5, then 6.
-pub fn room_for(a: Tally, part: &[u8], told: usize) -> Answer
+pub fn room_for(a: Tally, part: &[u8], told: usize) -> Result<usize, Refusal>
     requires { Judgeable a }
     ensures { result ≡ fitting a part.now told }
 {
-    let found = scan(part, a.settings.catalogue, 0);
-    match found {
-        Answer::Refused(x) => Answer::Refused(x),
-        Answer::Done(count) => has_room(a, count, told),
-    }
+    let count = scan(part, a.settings.catalogue, 0)?;
+    has_room(a, count, told)
 }

@@ -7,13 +7,6 @@ use amounts::Unit;
 use card::Refusal;
 use tables::{Tally, long_enough};
 
-// Nothing stands against the call so far, or the refusal.
-#[derive(Clone, Copy)]
-pub enum Settled {
-    Fine,
-    Refused(Refusal),
-}
-
 // The settings, the lengths and the unit: 1, 2 or 8.
 pub fn judge_settings(
     unit: Unit,
@@ -26,24 +19,24 @@ pub fn judge_settings(
     key: usize,
     stamp: usize,
     queue: usize,
-) -> Settled
+) -> Result<(), Refusal>
     ensures { result ≡ settled unit.0 a (long_enough a.settings.places.0 a.settings.catalogue.0 place file size cost freq key stamp queue) }
 {
     if !unit.in_range() {
-        return Settled::Refused(Refusal::Setting);
+        return Err(Refusal::Setting);
     }
     if !a.settings.in_range() {
-        return Settled::Refused(Refusal::Setting);
+        return Err(Refusal::Setting);
     }
     let places = a.settings.places.count();
     let catalogue = a.settings.catalogue.count();
     if !long_enough(
         places, catalogue, place, file, size, cost, freq, key, stamp, queue,
     ) {
-        return Settled::Refused(Refusal::Short);
+        return Err(Refusal::Short);
     }
     if unit == a.settings.unit {
-        return Settled::Fine;
+        return Ok(());
     }
-    Settled::Refused(Refusal::OtherUnit)
+    Err(Refusal::OtherUnit)
 }

@@ -5,10 +5,10 @@ use mathlib.Core.List.{List, [], ◌∷◌}
 use Prim.Native.Nat.{ℕ, ◌≤◌}
 use native.Mathlib.Omega.{arith}
 use lib.ListN.{length}
+use Rattle.std.specs.Prelude.{Result, Ok, ⊤}
 use Rattle.card.specs.Card.{done}
+use Rattle.card.specs.declared.Refusal.{Refusal}
 use Rattle.trace.specs.Cards.{answer_card}
-use Rattle.trace.specs.declared.answer.Answer.{Answer}
-use Rattle.trace.specs.declared.answer.Answer.TheVariants.{Done}
 use Rattle.amounts.specs.Requests.{Request}
 use Rattle.amounts.specs.declared.settings.Settings.{Settings}
 use Rattle.tables.specs.Tables.{Tables, Long}
@@ -20,27 +20,24 @@ use Rattle.tables.proofs.Lengths.{long_of}
 use Rattle.tables.proofs.Near.{near}
 use Rattle.tables.proofs.Ranges.{bounded}
 use Rattle.serving.specs.Serving.{Running}
-use Rattle.refusing.specs.Judging.{Judgeable, fitting, settled, Orderly}
-use Rattle.refusing.specs.declared.settings.Settled.{Settled}
-use Rattle.refusing.specs.declared.settings.Settled.TheVariants.{Fine}
+use Rattle.refusing.specs.Judging.{Judgeable, fitting, fine, settled, Orderly}
 use Rattle.refusing.proofs.Rooms.{fits, settled_fine}
 use Rattle.parts.specs.Parts.{Ready, PartServed}
-use Rattle.replay.specs.Carrying.{Runs, Answers, Judges, Settles, Carries}
-use Rattle.replay.specs.declared.carry.Carried.{Carried}
+use Rattle.replay.specs.Carrying.{Carried, Runs, Answers, Judges, Settles, Carries}
 use Rattle.parts.specs.declared.Ended.{Ended}
 
 -- ---- what is due is given
 
 module _ (a : Tally) (t : Tables) (told : List ℕ) (r : Carried) (u : Tables) (told' part : List ℕ) where
-  pub carries : (unit : ℕ) (x : Settled) → settled unit a (long a.settings t) ≡ x → Settles a t told r u told' part x → Carries a t told r u told' unit part
+  pub carries : (unit : ℕ) (x : Result ⊤ Refusal) → settled unit a (long a.settings t) ≡ x → Settles a t told r u told' part x → Carries a t told r u told' unit part
   carries unit x e h = subst (Settles a t told r u told' part) (sym e) h
 
-  pub judges : (x : Answer) → Sound a t → fitting a part (length told) ≡ x → Answers a t told r u told' part x → Judges a t told r u told' part
+  pub judges : (x : Result ℕ Refusal) → Sound a t → fitting a part (length told) ≡ x → Answers a t told r u told' part x → Judges a t told r u told' part
   judges x s e h = record { unsound = λ un. absurd (un s); sound = λ _. subst (Answers a t told r u told' part) (sym e) h }
 
 -- ---- sound tables, ready to be served
 
-pub orderly : (unit : ℕ) (a : Tally) (t : Tables) → settled unit a (long a.settings t) ≡ Fine → Orderly a t
+pub orderly : (unit : ℕ) (a : Tally) (t : Tables) → settled unit a (long a.settings t) ≡ fine → Orderly a t
 orderly unit a t e = let x = settled_fine unit a (long a.settings t) e in record { range = x.0; long = long_of a.settings.places.0 a.settings.catalogue.0 t x.1 }
 
 pub judgeable : (a : Tally) (t : Tables) → Orderly a t → Sound a t → Judgeable a
@@ -59,14 +56,14 @@ module _ (a : Tally) (t : Tables) (entry entry' free free' : List ℕ) (answer :
       }
 
 -- what is found to fit is ready to be served
-pub fits_ready : (a : Tally) (t : Tables) (entry free told part : List ℕ) (count : ℕ) → Running a t entry free → fitting a part (length told) ≡ Done count → Ready a part count t entry free told
+pub fits_ready : (a : Tally) (t : Tables) (entry free told part : List ℕ) (count : ℕ) → Running a t entry free → fitting a part (length told) ≡ Ok count → Ready a part count t entry free told
 fits_ready a t entry free told part count h e =
     let f = fits a part count (length told) e in
     record { running = h; reads = f.reads; counts = f.counts; few = f.few; room = f.room }
 
 -- what serving promised is what carrying on promises
 pub served_runs : (qs : List Request) (a : Tally) (t : Tables) (told : List ℕ) (e : Ended) (u : Tables) (entry free told' : List ℕ) → PartServed qs a t told e u entry free told'
-    → (r : Carried) → r.answer ≡ Done e.events → r.tally ≡ e.tally → Runs qs a t told r u told'
+    → (r : Carried) → r.answer ≡ Ok e.events → r.tally ≡ e.tally → Runs qs a t told r u told'
 served_runs qs a t told e u entry free told' x r is-a is-t =
     record {
       answer = ap answer_card is-a ∙ ap (λ (n : ℕ). done (n ∷ [])) x.count;

@@ -6,6 +6,7 @@ use Prim.Native.Nat.{ℕ, ◌*◌, ◌≤◌}
 use native.Mathlib.Omega.{arith}
 use lib.ListN.{length, take}
 use lib.Seq.{sets, sets-eq, take_at}
+use Rattle.std.specs.Prelude.{Result, Ok, Err}
 use Rattle.amounts.specs.Limits.{lift}
 use Rattle.amounts.specs.Settings.{in_range}
 use Rattle.amounts.specs.Requests.{Request}
@@ -21,10 +22,9 @@ use Rattle.method.proofs.Raising.{sum_raise}
 use Rattle.method.proofs.Lifts.{lifts_append}
 use Rattle.method.proofs.Runs.{run_append_state, run_append_replies, run_append_events, events_length}
 use Rattle.method.proofs.Agreement.{totals_append}
+use Rattle.card.specs.declared.Refusal.{Refusal}
 use Rattle.trace.specs.Reading.{good, read_of}
 use Rattle.trace.specs.Cards.{answer_card}
-use Rattle.trace.specs.declared.answer.Answer.{Answer}
-use Rattle.trace.specs.declared.answer.Answer.TheVariants.{Done, Refused}
 use Rattle.trace.proofs.RoundTrip.{part_append, part_ranged}
 use Rattle.tables.specs.Tables.{Tables, Long}
 use Rattle.tables.specs.Tally.{store_of, policy_in, state_of, whole_of, totals_of}
@@ -36,9 +36,8 @@ use Rattle.counting.specs.Counting.{whole_tally}
 use Rattle.serving.specs.Serving.{beyond_of}
 use Rattle.refusing.specs.Judging.{requests_in}
 use Rattle.parts.specs.Parts.{run_from, lifts_from, tally_of, events_of}
-use Rattle.replay.specs.Carrying.{Runs, Answers, Carries}
+use Rattle.replay.specs.Carrying.{Carried, Runs, Answers, Carries}
 use Rattle.replay.specs.Demand.{Goes, here, on, AtOnce}
-use Rattle.replay.specs.declared.carry.Carried.{Carried}
 use Rattle.replay.proofs.Cases.{due_here, answers, sure}
 use Rattle.replay.proofs.OneAnswer.{one_shelf}
 use Rattle.parts.proofs.Walking.{good_one, stands}
@@ -58,12 +57,12 @@ module _ (a : Tally) (t : Tables) (told : List ℕ) (r : Carried) (u : Tables) (
     pub runs : Runs (requests_in a part) a t told r u told'
     pub events : take n told' ≡ events_of (requests_in a part) (run_from a t (requests_in a part))
 
-  pub ran : Carries a t told r u told' unit part → r.answer ≡ Done n → Ran
+  pub ran : Carries a t told r u told' unit part → r.answer ≡ Ok n → Ran
   ran c e = go (due_here a t told unit part) refl (answers a t told unit part r u told' c)
     where
-      go : (z : Answer) → due_here a t told unit part ≡ z → Answers a t told r u told' part z → Ran
-      go (Refused x) q h = absurd (refusal_not_done x (ap (λ (k : Card). k.number) (sym h.answer ∙ ap answer_card e)))
-      go (Done k) q h =
+      go : (z : Result ℕ Refusal) → due_here a t told unit part ≡ z → Answers a t told r u told' part z → Ran
+      go (Err x) q h = absurd (refusal_not_done x (ap (λ (k : Card). k.number) (sym h.answer ∙ ap answer_card e)))
+      go (Ok k) q h =
           let s = sure a t told unit part k q in
           let qs : List Request = requests_in a part in
           let x : Run State = run_from a t qs in

@@ -5,6 +5,7 @@ use mathlib.Core.List.{List, [], ◌∷◌}
 use Prim.Native.Nat.{ℕ, ◌*◌}
 use lib.ListN.{length}
 use lib.Seq.{sets}
+use Rattle.std.specs.Prelude.{Result, Ok, Err}
 use Rattle.amounts.specs.Limits.{no_place, lift}
 use Rattle.amounts.specs.Settings.{in_range}
 use Rattle.amounts.specs.Requests.{Request}
@@ -12,15 +13,13 @@ use Rattle.amounts.specs.declared.settings.Settings.{Settings}
 use Rattle.card.specs.Card.{done}
 use Rattle.method.specs.Method.{State, Run, run, step}
 use Rattle.method.specs.Whole.{whole, lifts_of}
-use Rattle.trace.specs.declared.answer.Answer.{Answer}
-use Rattle.trace.specs.declared.answer.Answer.TheVariants.{Done, Refused}
+use Rattle.card.specs.declared.Refusal.{Refusal}
 use Rattle.trace.proofs.OneAnswer.{answer_one}
 use Rattle.tables.specs.Tables.{Tables, Long, needed, shelf_of}
 use Rattle.tables.specs.Tally.{store_of, policy_in, whole_of, fresh_tally}
 use Rattle.tables.specs.Start.{long, Freshly}
 use Rattle.tables.specs.Sound.{Sound, Linked, Queued}
 use Rattle.tables.specs.Renaming.{Renamed}
-use Rattle.tables.specs.declared.start.Started.{Started}
 use Rattle.tables.specs.declared.tally.Tally.{Tally}
 use Rattle.tables.proofs.Lengths.{long_of}
 use Rattle.tables.proofs.Lists.{length_filled}
@@ -31,9 +30,8 @@ use Rattle.tables.proofs.Shelves.{fresh_shelf}
 use Rattle.tables.proofs.Twins.{fresh_done, freshly_sound, twins}
 use Rattle.refusing.specs.Judging.{requests_in, fitting, settled}
 use Rattle.parts.specs.Parts.{run_from, lifts_from, tally_of, events_of}
-use Rattle.replay.specs.Carrying.{Runs, Answers, Carries}
+use Rattle.replay.specs.Carrying.{Carried, Runs, Answers, Carries}
 use Rattle.replay.specs.Agreeing.{Left, Same, Alike}
-use Rattle.replay.specs.declared.carry.Carried.{Carried}
 use Rattle.replay.proofs.Cases.{due, due_here, due_sound, answers, sure, past}
 
 -- ---- sound tables of one tally that stand for one whole state
@@ -66,7 +64,7 @@ module _ (a : Tally) (t t' : Tables) (e : shelf_of a.settings.catalogue.0 t ≡ 
       let x = same_run qs in
       let tally : r.tally ≡ r'.tally = f.tally ∙ (λ i. tally_of a (same_lifts qs i) (x i)) ∙ sym g.tally in
       let state : whole_of r.tally u ≡ whole_of r.tally u' = f.state ∙ ap (λ (y : Run State). y.state) x ∙ sym g.state ∙ ap (λ (y : Tally). whole_of y u') (sym tally) in
-      let is : r.answer ≡ Done (length (events_of qs (run_from a t qs))) = answer_one _ _ f.answer in
+      let is : r.answer ≡ Ok (length (events_of qs (run_from a t qs))) = answer_one _ _ f.answer in
       record {
         answer = is ∙ sym (answer_one _ _ (g.answer ∙ ap (λ (y : Run State). done (length (events_of qs y) ∷ [])) (sym x)));
         tally = tally;
@@ -76,10 +74,10 @@ module _ (a : Tally) (t t' : Tables) (e : shelf_of a.settings.catalogue.0 t ≡ 
             (one_shelf a.settings h r.tally u u' (ap (λ (y : Tally). y.settings) f.tally) f.sound (subst (λ (y : Tally). Sound y u') (sym tally) g.sound) f.long g.long state);
       }
 
-  same_answers : (z : Answer) → ((k : ℕ) → z ≡ Done k → in_range a.settings ≡ true) → Answers a t told r u now part z → Answers a t' told r' u' now' part z → Same a.settings r r' u u' now now'
-  same_answers (Done k) h f g = same_done (requests_in a part) (h k refl) f g
-  same_answers (Refused x) h f g =
-      let is : r.answer ≡ Refused x = answer_one _ _ f.answer in
+  same_answers : (z : Result ℕ Refusal) → ((k : ℕ) → z ≡ Ok k → in_range a.settings ≡ true) → Answers a t told r u now part z → Answers a t' told r' u' now' part z → Same a.settings r r' u u' now now'
+  same_answers (Ok k) h f g = same_done (requests_in a part) (h k refl) f g
+  same_answers (Err x) h f g =
+      let is : r.answer ≡ Err x = answer_one _ _ f.answer in
       let left : Tables → Tables = needed a.settings.places.0 a.settings.catalogue.0 in
       record {
         answer = is ∙ sym (answer_one _ _ g.answer);
@@ -105,7 +103,7 @@ carry_on_one_answer a t told r r' u u' now now' unit part f g =
 -- ---- twins, over a whole run
 
 -- a fresh start leaves the tables as long as they were
-pub fresh_long : (s : Settings) (t : Tables) (d : Started) (u : Tables) → Freshly s t d u → in_range s ≡ true → long s t ≡ true → long s u ≡ true
+pub fresh_long : (s : Settings) (t : Tables) (d : Result Tally Refusal) (u : Tables) → Freshly s t d u → in_range s ≡ true → long s t ≡ true → long s u ≡ true
 fresh_long s t d u f h l =
     let p : ℕ = s.places.0 in
     let n : ℕ = s.catalogue.0 in
@@ -123,7 +121,7 @@ fresh_long s t d u f h l =
     ) l
 
 -- a fresh start and a trace give the same, whatever the tables held before
-pub twins_run : (s : Settings) (t t' : Tables) (d d' : Started) (u u' : Tables) → Freshly s t d u → Freshly s t' d' u' → in_range s ≡ true → long s t ≡ true → long s t' ≡ true
+pub twins_run : (s : Settings) (t t' : Tables) (d d' : Result Tally Refusal) (u u' : Tables) → Freshly s t d u → Freshly s t' d' u' → in_range s ≡ true → long s t ≡ true → long s t' ≡ true
     → (unit : ℕ) (part told : List ℕ) (r r' : Carried) (w w' : Tables) (now now' : List ℕ)
     → Carries (fresh_tally s) u told r w now unit part → Carries (fresh_tally s) u' told r' w' now' unit part → (d ≡ d') × Same s r r' w w' now now'
 twins_run s t t' d d' u u' f f' h l l' unit part told r r' w w' now now' c c' =

@@ -1,12 +1,11 @@
 -- A run carried on (document 01, "Tables and the tally" and "Numbers on the red card"). Assumes nothing.
-use Rattle.std.specs.Prelude.{◌≡◌, List, [], ◌∷◌, ℕ, length}
+use Rattle.std.specs.Prelude.{◌≡◌, List, [], ◌∷◌, ℕ, length, Result, Ok, Err, ⊤}
 use Rattle.std.proofs.lemmas.List.Edits.{sets}
 use Rattle.amounts.specs.Requests.{Request}
 use Rattle.card.specs.Card.{Card, done, card_of}
+use Rattle.card.specs.declared.Refusal.{Refusal}
 use Rattle.card.specs.declared.Refusal.TheVariants.{Unsound}
 use Rattle.trace.specs.Cards.{answer_card}
-use Rattle.trace.specs.declared.answer.Answer.{Answer}
-use Rattle.trace.specs.declared.answer.Answer.TheVariants.{Done, Refused}
 use Rattle.tables.specs.Tables.{Tables, Long}
 use Rattle.tables.specs.Tally.{whole_of}
 use Rattle.tables.specs.Start.{long}
@@ -14,10 +13,18 @@ use Rattle.tables.specs.Sound.{Sound}
 use Rattle.tables.specs.declared.tally.Tally.{Tally}
 use Rattle.serving.specs.Serving.{beyond_of}
 use Rattle.refusing.specs.Judging.{requests_in, fitting, settled}
-use Rattle.refusing.specs.declared.settings.Settled.{Settled}
-use Rattle.refusing.specs.declared.settings.Settled.TheVariants as verdict
+use Rattle.parts.specs.declared.Ended.{Ended}
 use Rattle.parts.specs.Parts.{run_from, lifts_from, tally_of, events_of}
-use Rattle.replay.specs.declared.carry.Carried.{Carried}
+
+-- what a call gives: the answer, and the tally after it
+pub record Carried : Type 0 where
+  pub answer : Result ℕ Refusal
+  pub tally : Tally
+
+-- a refusal leaves the tally that the call was given
+abbrev pub carried : Tally → Result Ended Refusal → Carried
+carried a (Ok e) = record { answer = Ok e.events; tally = e.tally }
+carried a (Err x) = record { answer = Err x; tally = a }
 
 -- document 01, "Order": a refusal is decided before anything is written
 pub record Refuses (card : Card) (a : Tally) (t : Tables) (told : List ℕ) (r : Carried) (u : Tables) (told' : List ℕ) : Type 0 where
@@ -39,19 +46,19 @@ pub record Runs (qs : List Request) (a : Tally) (t : Tables) (told : List ℕ) (
 
 module _ (a : Tally) (t : Tables) (told : List ℕ) (r : Carried) (u : Tables) (told' : List ℕ) where
   -- the refusal that is due, or the run over the requests of the part
-  abbrev pub Answers : List ℕ → Answer → Type 0
-  Answers part (Refused x) = Refuses (card_of x) a t told r u told'
-  Answers part (Done n) = Runs (requests_in a part) a t told r u told'
+  abbrev pub Answers : List ℕ → Result ℕ Refusal → Type 0
+  Answers part (Err x) = Refuses (card_of x) a t told r u told'
+  Answers part (Ok n) = Runs (requests_in a part) a t told r u told'
 
   -- document 01, "Order": 7 exactly where the tables are not sound; then 3 and 4 by place, 5, 6
   pub record Judges (part : List ℕ) : Type 0 where
-    pub unsound : (Sound a t → ⊥) → Answers part (Refused Unsound)
+    pub unsound : (Sound a t → ⊥) → Answers part (Err Unsound)
     pub sound : Sound a t → Answers part (fitting a part (length told))
 
   -- document 01, "Order": 1, 2 and 8 come first
-  abbrev pub Settles : List ℕ → Settled → Type 0
-  Settles part (verdict.Refused x) = Answers part (Refused x)
-  Settles part verdict.Fine = Judges part
+  abbrev pub Settles : List ℕ → Result ⊤ Refusal → Type 0
+  Settles part (Err x) = Answers part (Err x)
+  Settles part (Ok tt) = Judges part
 
   -- what `carry_on` promises
   abbrev pub Carries : ℕ → List ℕ → Type 0

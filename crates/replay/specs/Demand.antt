@@ -1,5 +1,5 @@
 -- Demands 2 and 3 over the calls: a fresh start, then runs carried on (document 01, "How much each promise says"). Assumes nothing.
-use Rattle.std.specs.Prelude.{◌≡◌, true, List, [], ◌++◌, ℕ, ◌≤◌, length, take}
+use Rattle.std.specs.Prelude.{◌≡◌, true, List, [], ◌++◌, ℕ, ◌≤◌, length, take, Result, Ok}
 use Rattle.amounts.specs.Limits.{requests_most}
 use Rattle.amounts.specs.Settings.{in_range}
 use Rattle.amounts.specs.Requests.{Request}
@@ -10,23 +10,21 @@ use Rattle.method.specs.Totals.{totals, zeros}
 use Rattle.method.specs.Credit.{Ledger, step_c, fresh_c}
 use Rattle.method.specs.Whole.{lifts_of}
 use Rattle.method.specs.Promise.{Held}
+use Rattle.card.specs.declared.Refusal.{Refusal}
 use Rattle.trace.specs.Reading.{good, read_of}
-use Rattle.trace.specs.declared.answer.Answer.TheVariants.{Done}
 use Rattle.tables.specs.Tables.{Tables}
 use Rattle.tables.specs.Tally.{store_of, policy_in, whole_of, totals_of, fresh_tally}
 use Rattle.tables.specs.Start.{long, Freshly}
-use Rattle.tables.specs.declared.start.Started.{Started}
 use Rattle.tables.specs.declared.tally.Tally.{Tally}
 use Rattle.serving.specs.Serving.{beyond_of}
 use Rattle.parts.specs.Parts.{run_from, lifts_from, tally_of, events_of}
-use Rattle.replay.specs.Carrying.{Carries}
-use Rattle.replay.specs.declared.carry.Carried.{Carried}
+use Rattle.replay.specs.Carrying.{Carried, Carries}
 
 -- from tally a and tables t, any number of calls that were done lead to another tally and other tables: bytes are their parts joined, es their events joined, n of each call's list
 pub data Goes (a : Tally) (t : Tables) : Tally → Tables → List ℕ → List ℕ → Type 0 where
   here : Goes a t a t [] []
   on : (b : Tally) (u w : Tables) (bytes es told told' part : List ℕ) (r : Carried) (unit n : ℕ)
-      → Goes a t b u bytes es → Carries b u told r w told' unit part → r.answer ≡ Done n → Goes a t r.tally w (bytes ++ part) (es ++ take n told')
+      → Goes a t b u bytes es → Carries b u told r w told' unit part → r.answer ≡ Ok n → Goes a t r.tally w (bytes ++ part) (es ++ take n told')
 
 -- document 01, "Tables and the tally": in parts and at once: tally, whole state, events and what lies past the needed lengths are those of one run over the requests qs
 pub record AtOnce (a : Tally) (t : Tables) (b : Tally) (u : Tables) (qs : List Request) (es : List ℕ) : Type 0 where
@@ -39,7 +37,7 @@ pub record AtOnce (a : Tally) (t : Tables) (b : Tally) (u : Tables) (qs : List R
 pub record Reached (s : Settings) (a : Tally) (t : Tables) (bytes es : List ℕ) : Type 0 where
   pub old : Tables
   pub new : Tables
-  pub answer : Started
+  pub answer : Result Tally Refusal
   pub range : in_range s ≡ true
   pub enough : long s old ≡ true
   pub starts : Freshly s old answer new

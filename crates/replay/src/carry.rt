@@ -1,22 +1,14 @@
 // A run carried on: everything is judged once, before anything is written; then the part is served.
 ghost use Rattle.tables.specs.Tables.{tables};
-ghost use Rattle.replay.specs.Carrying.{Judges, Carries};
+ghost use Rattle.replay.specs.Carrying.{carried, Judges, Carries};
 ghost use Rattle.refusing.specs.Judging.{Orderly};
 
 use amounts::{Places, Unit};
 use card::Refusal;
 use judge::is_sound;
-use parts::serve_part;
-use refusing::{Settled, judge_settings, room_for};
+use parts::{Ended, serve_part};
+use refusing::{judge_settings, room_for};
 use tables::Tally;
-use trace::Answer;
-
-// The answer, and the tally after the call: a refusal gives back the tally that it was given.
-#[derive(Clone, Copy)]
-pub struct Carried {
-    pub answer: Answer,
-    pub tally: Tally,
-}
 
 // Carries on over tables whose settings and lengths are in order.
 fn carry_sound(
@@ -31,38 +23,22 @@ fn carry_sound(
     queue: &mut [u16],
     part: &[u8],
     events: &mut [u32],
-) -> Carried
+) -> Result<Ended, Refusal>
     requires { Orderly a (tables place.old file.old size.old cost.old freq.old key.old stamp.old queue.old) }
-    ensures { Judges a (tables place.old file.old size.old cost.old freq.old key.old stamp.old queue.old) events.old result (tables place.new file.new size.new cost.new freq.new key.new stamp.new queue.new) events.new part.now }
+    ensures { Judges a (tables place.old file.old size.old cost.old freq.old key.old stamp.old queue.old) events.old (carried a result) (tables place.new file.new size.new cost.new freq.new key.new stamp.new queue.new) events.new part.now }
 {
     let mut entry = [0u16; Places::MOST as usize];
     let mut free = [0u16; Places::MOST as usize];
     if !is_sound(
         a, place, file, size, cost, freq, key, stamp, queue, &mut entry, &mut free,
     ) {
-        return Carried {
-            answer: Answer::Refused(Refusal::Unsound),
-            tally: a,
-        };
+        return Err(Refusal::Unsound);
     }
-    let found = room_for(a, part, events.len());
-    match found {
-        Answer::Refused(x) => Carried {
-            answer: Answer::Refused(x),
-            tally: a,
-        },
-        Answer::Done(count) => {
-            let ended = serve_part(
-                a, part, count, place, file, size, cost, freq, key, stamp, queue, &mut entry,
-                &mut free, events,
-            );
-            let tally = ended.tally;
-            Carried {
-                answer: Answer::Done(ended.events),
-                tally,
-            }
-        }
-    }
+    let count = room_for(a, part, events.len())?;
+    Ok(serve_part(
+        a, part, count, place, file, size, cost, freq, key, stamp, queue, &mut entry, &mut free,
+        events,
+    ))
 }
 
 // Carries a run on over a further part of its trace, only under the unit that its tally names.
@@ -79,10 +55,10 @@ pub fn carry_on(
     queue: &mut [u16],
     part: &[u8],
     events: &mut [u32],
-) -> Carried
-    ensures { Carries a (tables place.old file.old size.old cost.old freq.old key.old stamp.old queue.old) events.old result (tables place.new file.new size.new cost.new freq.new key.new stamp.new queue.new) events.new unit.0 part.now }
+) -> Result<Ended, Refusal>
+    ensures { Carries a (tables place.old file.old size.old cost.old freq.old key.old stamp.old queue.old) events.old (carried a result) (tables place.new file.new size.new cost.new freq.new key.new stamp.new queue.new) events.new unit.0 part.now }
 {
-    let settled = judge_settings(
+    judge_settings(
         unit,
         a,
         place.len(),
@@ -93,14 +69,8 @@ pub fn carry_on(
         key.len(),
         stamp.len(),
         queue.len(),
-    );
-    match settled {
-        Settled::Refused(x) => Carried {
-            answer: Answer::Refused(x),
-            tally: a,
-        },
-        Settled::Fine => carry_sound(
-            a, place, file, size, cost, freq, key, stamp, queue, part, events,
-        ),
-    }
+    )?;
+    carry_sound(
+        a, place, file, size, cost, freq, key, stamp, queue, part, events,
+    )
 }

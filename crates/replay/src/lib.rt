@@ -3,4 +3,4 @@
 
 mod carry;
 
-pub use carry::{Carried, carry_on};
+pub use carry::carry_on;

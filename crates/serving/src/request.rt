@@ -103,7 +103,7 @@ pub fn serve(
     let outcome = met.outcome;
     let tally = met.tally;
     let due = met.due;
-    events[due] = event(outcome.kind(), f);
+    events[due] = event(u32::from(outcome.kind()), f);
     let next = due + 1;
     Step {
         outcome,

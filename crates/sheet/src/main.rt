@@ -6,17 +6,15 @@ ghost use Rattle.std.specs.Prelude.{◌≤◌, IfOk, length};
 use layout::{INPUT_MOST, SHEET_MOST};
 use std::io;
 use std::io::Read;
-use trace::Answer;
 
 fn main(rt: HostRuntime) -> io::Result<()> {
     // One byte more than the most is enough to tell that there is too much.
     let mut input = [0u8; INPUT_MOST + 1];
     let got = read_full(&mut rt.stdin(), &mut input)?;
     let mut out = [0u8; SHEET_MOST];
-    let answer = layout::sheet(&input[..got], &mut out);
-    match answer {
-        Answer::Done(count) => rt.write_all(&out[..count]),
-        Answer::Refused(_) => Ok(()),
+    match layout::sheet(&input[..got], &mut out) {
+        Ok(count) => rt.write_all(&out[..count]),
+        Err(_) => Ok(()),
     }
 }
 

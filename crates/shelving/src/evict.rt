@@ -5,6 +5,7 @@ ghost use Rattle.shelving.specs.Telling.{Tellable, Told};
 
 use crate::records::clear;
 use amounts::Settings;
+use method::{Kind, event};
 
 // Writes the evictions: the files behind the queue, from the last of n entries down.
 pub fn tell(n: usize, left: usize, file: &[u16], queue: &[u16], events: &mut [u32], at: usize)
@@ -14,7 +15,7 @@ pub fn tell(n: usize, left: usize, file: &[u16], queue: &[u16], events: &mut [u3
     let mut e = at;
     for last in (left..n).rev() {
         let p = usize::from(queue[last]);
-        events[e] = method::event(method::EVICT, usize::from(file[p]));
+        events[e] = event(u32::from(Kind::Evict), usize::from(file[p]));
         e += 1;
     }
 }

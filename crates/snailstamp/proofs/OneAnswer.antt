@@ -6,6 +6,7 @@ use Prim.Native.Nat.{ℕ, ◌%◌}
 use lib.ListN.{drop}
 use lib.Seq.{drop_at}
 use lib.Ieee.{Float}
+use Rattle.std.specs.Prelude.{Result, Ok, Err, ⊤}
 use Rattle.amounts.specs.declared.settings.Settings.{Settings}
 use Rattle.card.specs.Card.{card_of}
 use Rattle.card.specs.declared.Refusal.{Refusal}
@@ -13,8 +14,6 @@ use Rattle.card.proofs.Cases.{refusal_not_done}
 use Rattle.trace.specs.Writing.{Put}
 use Rattle.trace.specs.Cards.{answer_card}
 use Rattle.trace.specs.Promise.{over}
-use Rattle.trace.specs.declared.answer.Answer.{Answer}
-use Rattle.trace.specs.declared.answer.Answer.TheVariants.{Done, Refused}
 use Rattle.tables.specs.Tables.{Tables}
 use Rattle.tables.specs.Start.{words}
 use Rattle.tables.specs.Renaming.{Renamed}
@@ -22,8 +21,6 @@ use Rattle.tables.specs.declared.tally.Tally.{Tally}
 use Rattle.ratios.specs.Ratios.{RatioCard}
 use Rattle.ratios.proofs.Rating.{rates_one}
 use Rattle.serving.specs.Serving.{beyond_of}
-use Rattle.refusing.specs.declared.settings.Settled.{Settled}
-use Rattle.refusing.specs.declared.settings.Settled.TheVariants as verdict
 use Rattle.replay.specs.Agreeing.{Left}
 use Rattle.replay.proofs.Cases.{due_here, answers, past}
 use Rattle.replay.proofs.OneAnswer.{carry_on_one_answer}
@@ -49,16 +46,16 @@ module _ (unit : ℕ) (part w : List ℕ) (t : Tables) (told : List ℕ) where
         let x = answers (tally_in w) t told unit part f.carried u told' f.carries in
         (past (tally_in w) t told f.carried u told' part (due_here (tally_in w) t told unit part) x, ap (drop tally_words) f.tally ∙ go f.carried.answer)
       where
-        go : (z : Answer) → drop tally_words (carried_words z f.carried.tally w) ≡ drop tally_words w
-        go (Done n) = drop_at (words f.carried.tally) (drop tally_words w) tally_words refl
-        go (Refused x) = refl
+        go : (z : Result ℕ Refusal) → drop tally_words (carried_words z f.carried.tally w) ≡ drop tally_words w
+        go (Ok n) = drop_at (words f.carried.tally) (drop tally_words w) tally_words refl
+        go (Err x) = refl
 
     pub carry_beyond : CarriedWords unit part w t told r w' u told' → (beyond_of (tally_in w).settings u ≡ beyond_of (tally_in w).settings t) × (drop tally_words w' ≡ drop tally_words w)
     carry_beyond f = go (worded unit w) f.judged
       where
-        go : (x : Settled) → WordsSettle unit part w t told r w' u told' x → (beyond_of (tally_in w).settings u ≡ beyond_of (tally_in w).settings t) × (drop tally_words w' ≡ drop tally_words w)
-        go verdict.Fine h = beyond_carried h
-        go (verdict.Refused x) h = (ap (beyond_of (tally_in w).settings) h.lent, ap (drop tally_words) h.tally)
+        go : (x : Result ⊤ Refusal) → WordsSettle unit part w t told r w' u told' x → (beyond_of (tally_in w).settings u ≡ beyond_of (tally_in w).settings t) × (drop tally_words w' ≡ drop tally_words w)
+        go (Ok tt) h = beyond_carried h
+        go (Err x) h = (ap (beyond_of (tally_in w).settings) h.lent, ap (drop tally_words) h.tally)
 
   module _ (r₁ r₂ : ℕ) (w₁ w₂ : List ℕ) (u₁ u₂ : Tables) (told₁ told₂ : List ℕ) where
     -- the number of a refusal is not 0
@@ -75,22 +72,22 @@ module _ (unit : ℕ) (part w : List ℕ) (t : Tables) (told : List ℕ) where
     agree_carried f g =
         let z = (carry_on_one_answer (tally_in w) t told f.carried g.carried u₁ u₂ told₁ told₂ unit part f.carries g.carries).same in
         record {
-          answer = f.answer ∙ ap (λ (a : Answer). answer_word (answer_card a)) z.answer ∙ sym g.answer;
+          answer = f.answer ∙ ap (λ (a : Result ℕ Refusal). answer_word (answer_card a)) z.answer ∙ sym g.answer;
           tally = f.tally ∙ (λ i. carried_words (z.answer i) (z.tally i) w) ∙ sym g.tally;
           events = z.events;
           done = go f.carried.answer refl z.needed;
         }
       where
-        go : (y : Answer) → f.carried.answer ≡ y → Left (tally_in w).settings f.carried.tally.files_kept u₁ u₂ y → r₁ % 256 ≡ 0
+        go : (y : Result ℕ Refusal) → f.carried.answer ≡ y → Left (tally_in w).settings f.carried.tally.files_kept u₁ u₂ y → r₁ % 256 ≡ 0
             → Renamed (tally_in w).settings (tally_in w₁).files_kept u₁ u₂
-        go (Refused x) q h e = absurd (no_refusal x (f.answer ∙ ap (λ (a : Answer). answer_word (answer_card a)) q) e)
-        go (Done k) q h e =
-            let same : tally_in w₁ ≡ f.carried.tally = ap tally_in (f.tally ∙ ap (λ (a : Answer). carried_words a f.carried.tally w) q) ∙ tally_over f.carried.tally w in
+        go (Err x) q h e = absurd (no_refusal x (f.answer ∙ ap (λ (a : Result ℕ Refusal). answer_word (answer_card a)) q) e)
+        go (Ok k) q h e =
+            let same : tally_in w₁ ≡ f.carried.tally = ap tally_in (f.tally ∙ ap (λ (a : Result ℕ Refusal). carried_words a f.carried.tally w) q) ∙ tally_over f.carried.tally w in
             subst (λ (a : Tally). Renamed (tally_in w).settings a.files_kept u₁ u₂) (sym same) h
 
-    agree : (x : Settled) → WordsSettle unit part w t told r₁ w₁ u₁ told₁ x → WordsSettle unit part w t told r₂ w₂ u₂ told₂ x → Agree
-    agree verdict.Fine f g = agree_carried f g
-    agree (verdict.Refused x) f g =
+    agree : (x : Result ⊤ Refusal) → WordsSettle unit part w t told r₁ w₁ u₁ told₁ x → WordsSettle unit part w t told r₂ w₂ u₂ told₂ x → Agree
+    agree (Ok tt) f g = agree_carried f g
+    agree (Err x) f g =
         record { answer = f.answer ∙ sym g.answer; tally = f.tally ∙ sym g.tally; events = f.untold ∙ sym g.untold; done = λ e. absurd (no_refusal x f.answer e) }
 
     pub carry_one : CarriedWords unit part w t told r₁ w₁ u₁ told₁ → CarriedWords unit part w t told r₂ w₂ u₂ told₂ → AlikeWords w r₁ r₂ w₁ w₂ u₁ u₂ told₁ told₂

@@ -7,6 +7,7 @@ use native.Mathlib.Omega.{arith}
 use lib.ListN.{length}
 use lib.Ieee.{Float}
 use borrow.Author.Tests.{le-leb, lt-leb}
+use Rattle.std.specs.Prelude.{Result, Ok, Err}
 use Rattle.amounts.proofs.Tests.{pick_true, pick_false}
 use Rattle.card.specs.Card.{Card, refused, card_of}
 use Rattle.card.specs.declared.Refusal.{Refusal}
@@ -15,8 +16,6 @@ use Rattle.trace.specs.Promise.{over}
 use Rattle.tables.specs.declared.tally.Tally.{Tally}
 use Rattle.ratios.specs.Ratios.{RatioCard, doubles_of, giving, refusing, ratio_card, Rates}
 use Rattle.ratios.specs.declared.answer.Ratios.{Ratios}
-use Rattle.ratios.specs.declared.answer.Rated.{Rated}
-use Rattle.ratios.specs.declared.answer.Rated.TheVariants.{Done, Refused}
 use Rattle.words.specs.Words.{word_of, answer_word, ratio_doubles, tally_in}
 use Rattle.snailstamp.specs.Run.{enough}
 use Rattle.snailstamp.specs.Rates.{fitted, PutRated, RatioWords}
@@ -38,16 +37,16 @@ module _ (l : List Float) where
 
   -- ---- the ways through `put_rated`
 
-  module _ {x : Rated} {r : ℕ} where
-    pub put_refused : (y : Refusal) → x ≡ Refused y → r ≡ answer_word (card_of y) → PutRated (ratio_card x) l r l
-    put_refused y q e = put (ap (λ (z : Rated). fitted l (ratio_card z)) q ∙ fits_refusing (card_of y)) e refl
+  module _ {x : Result Ratios Refusal} {r : ℕ} where
+    pub put_refused : (y : Refusal) → x ≡ Err y → r ≡ answer_word (card_of y) → PutRated (ratio_card x) l r l
+    put_refused y q e = put (ap (λ (z : Result Ratios Refusal). fitted l (ratio_card z)) q ∙ fits_refusing (card_of y)) e refl
 
-    pub put_no_room : (y : Ratios) → x ≡ Done y → length l < ratio_doubles → r ≡ answer_word (card_of Room) → PutRated (ratio_card x) l r l
-    put_no_room y q h e = put (ap (λ (z : Rated). fitted l (ratio_card z)) q ∙ no_room y h) e refl
+    pub put_no_room : (y : Ratios) → x ≡ Ok y → length l < ratio_doubles → r ≡ answer_word (card_of Room) → PutRated (ratio_card x) l r l
+    put_no_room y q h e = put (ap (λ (z : Result Ratios Refusal). fitted l (ratio_card z)) q ∙ no_room y h) e refl
 
-  pub put_done : {x : Rated} {l' : List Float} (y : Ratios) → x ≡ Done y → ratio_doubles ≤ length l → l' ≡ over (doubles_of y) l → PutRated (ratio_card x) l 0 l'
+  pub put_done : {x : Result Ratios Refusal} {l' : List Float} (y : Ratios) → x ≡ Ok y → ratio_doubles ≤ length l → l' ≡ over (doubles_of y) l → PutRated (ratio_card x) l 0 l'
   unfolding answer_word word_of
-  put_done y q h e = put (ap (λ (z : Rated). fitted l (ratio_card z)) q ∙ fits_giving y h) refl e
+  put_done y q h e = put (ap (λ (z : Result Ratios Refusal). fitted l (ratio_card z)) q ∙ fits_giving y h) refl e
 
   -- ---- the ways through `snailstamp_ratios`
 
@@ -55,5 +54,5 @@ module _ (l : List Float) where
     pub ratios_few : enough w ≡ false → r ≡ answer_word (card_of Short) → RatioWords w l r l
     ratios_few h e = record { due = refusing (refused 2 []); rates = rw h refl; put = put (fits_refusing (refused 2 [])) e refl }
 
-    pub ratios_rated : (l' : List Float) (a : Tally) (x : Rated) → enough w ≡ true → a ≡ tally_in w → Rates a (ratio_card x) → PutRated (ratio_card x) l r l' → RatioWords w l r l'
+    pub ratios_rated : (l' : List Float) (a : Tally) (x : Result Ratios Refusal) → enough w ≡ true → a ≡ tally_in w → Rates a (ratio_card x) → PutRated (ratio_card x) l r l' → RatioWords w l r l'
     ratios_rated l' a x h q p k = record { due = ratio_card x; rates = rw h (subst (λ (b : Tally). Rates b (ratio_card x)) q p); put = k }

@@ -7,25 +7,23 @@ use native.Mathlib.Omega.{arith}
 use lib.Dec.{leb}
 use lib.ListN.{length}
 use lib.Ieee.{Float}
+use Rattle.std.specs.Prelude.{Result, Ok, Err, ⊤}
 use Rattle.amounts.specs.Settings.{in_range}
 use Rattle.amounts.specs.declared.settings.Settings.{Settings}
 use Rattle.amounts.proofs.Tests.{pick_true, pick_false}
 use Rattle.card.specs.Card.{Card, done, refused}
+use Rattle.card.specs.declared.Refusal.{Refusal}
 use Rattle.trace.specs.Reading.{Read, good, stop, part_read, rows}
 use Rattle.trace.specs.Writing.{Put, bytes, written}
 use Rattle.trace.specs.Writing as w
 use Rattle.trace.specs.Cards.{answer_card, read_card, put_card}
 use Rattle.trace.specs.Promise.{over, Over, room}
-use Rattle.trace.specs.declared.answer.Answer.{Answer}
-use Rattle.trace.specs.declared.answer.Answer.TheVariants.{Done, Refused}
 use Rattle.trace.proofs.OneAnswer.{answer_one}
 use Rattle.tables.specs.Tables.{Tables}
 use Rattle.tables.specs.Start.{long, start_tables}
 use Rattle.ratios.specs.Ratios.{RatioCard, giving, refusing, Rates}
 use Rattle.ratios.specs.declared.answer.Ratios.{Ratios}
 use Rattle.ratios.proofs.Rating.{Case, empty, broken, past, whole, case_of}
-use Rattle.refusing.specs.declared.settings.Settled.{Settled}
-use Rattle.refusing.specs.declared.settings.Settled.TheVariants as verdict
 use Rattle.replay.specs.Carrying.{Answers}
 use Rattle.replay.proofs.Cases.{due_here, answers}
 use Rattle.words.specs.Words.{answer_word, tally_in}
@@ -56,16 +54,16 @@ module _ (unit : ℕ) (part w : List ℕ) (t : Tables) (told : List ℕ) (r : �
   carried_still : CarriedOn unit part w t told r w' u told' → (w' ≡ w) × (u ≡ t) × (told' ≡ told)
   carried_still f = go (due_here (tally_in w) t told unit part) (answers (tally_in w) t told unit part f.carried u told' f.carries)
     where
-      go : (z : Answer) → Answers (tally_in w) t told f.carried u told' part z → (w' ≡ w) × (u ≡ t) × (told' ≡ told)
-      go (Done k) h = absurd (n (done_number r (answer_card f.carried.answer) (ap (λ (c : Card). c.number) h.answer) f.answer))
-      go (Refused x) h = (f.tally ∙ ap (λ (z : Answer). carried_words z f.carried.tally w) (answer_one f.carried.answer (Refused x) h.answer), h.lent, h.untold)
+      go : (z : Result ℕ Refusal) → Answers (tally_in w) t told f.carried u told' part z → (w' ≡ w) × (u ≡ t) × (told' ≡ told)
+      go (Ok k) h = absurd (n (done_number r (answer_card f.carried.answer) (ap (λ (c : Card). c.number) h.answer) f.answer))
+      go (Err x) h = (f.tally ∙ ap (λ (z : Result ℕ Refusal). carried_words z f.carried.tally w) (answer_one f.carried.answer (Err x) h.answer), h.lent, h.untold)
 
   pub carry_still : CarriedWords unit part w t told r w' u told' → (w' ≡ w) × (u ≡ t) × (told' ≡ told)
   carry_still f = go (worded unit w) f.judged
     where
-      go : (x : Settled) → WordsSettle unit part w t told r w' u told' x → (w' ≡ w) × (u ≡ t) × (told' ≡ told)
-      go verdict.Fine h = carried_still h
-      go (verdict.Refused x) h = (h.tally, h.lent, h.untold)
+      go : (x : Result ⊤ Refusal) → WordsSettle unit part w t told r w' u told' x → (w' ≡ w) × (u ≡ t) × (told' ≡ told)
+      go (Ok tt) h = carried_still h
+      go (Err x) h = (h.tally, h.lent, h.untold)
 
 -- the readers
 module _ (r : ℕ) (n : r % 256 ≡ 0 → ⊥) where

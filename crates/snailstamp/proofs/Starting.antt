@@ -4,6 +4,7 @@ use mathlib.Core.Bool.{Bool, true, false}
 use mathlib.Core.List.{List, []}
 use Prim.Native.Nat.{ℕ}
 use native.Mathlib.Omega.{arith}
+use Rattle.std.specs.Prelude.{Result, Ok, Err}
 use Rattle.amounts.specs.Limits.{pick}
 use Rattle.amounts.specs.Settings.{in_range}
 use Rattle.amounts.specs.declared.settings.Settings.{Settings}
@@ -15,8 +16,6 @@ use Rattle.tables.specs.Tables.{Tables}
 use Rattle.tables.specs.Tally.{fresh_tally}
 use Rattle.tables.specs.Start.{words, long, start_card, start_answer, start_tables, Freshly}
 use Rattle.tables.specs.declared.tally.Tally.{Tally}
-use Rattle.tables.specs.declared.start.Started.{Started}
-use Rattle.tables.specs.declared.start.Started.TheVariants.{Done, Refused}
 use Rattle.tables.proofs.Twins.{fresh_done}
 use Rattle.words.specs.Words.{word_of, answer_word}
 use Rattle.snailstamp.specs.Steps.{started_word, started_words, PutStarted}
@@ -24,11 +23,11 @@ use Rattle.snailstamp.specs.Run.{enough, fresh_card, fresh_words, fresh_tables, 
 
 -- ---- the words of a fresh start
 
-pub put_refused : {x : Started} {w : List ℕ} {r : ℕ} (y : Refusal) → x ≡ Refused y → r ≡ answer_word (card_of y) → PutStarted x w r w
-put_refused {w = w} y q e = record { answer = e ∙ ap started_word (sym q); tally = ap (λ (z : Started). started_words z w) (sym q) }
+pub put_refused : {x : Result Tally Refusal} {w : List ℕ} {r : ℕ} (y : Refusal) → x ≡ Err y → r ≡ answer_word (card_of y) → PutStarted x w r w
+put_refused {w = w} y q e = record { answer = e ∙ ap started_word (sym q); tally = ap (λ (z : Result Tally Refusal). started_words z w) (sym q) }
 
-pub put_done : {x : Started} {w w' : List ℕ} (a : Tally) → x ≡ Done a → w' ≡ over (words a) w → PutStarted x w 0 w'
-put_done {w = w} a q v = record { answer = ap started_word (sym q); tally = v ∙ ap (λ (z : Started). started_words z w) (sym q) }
+pub put_done : {x : Result Tally Refusal} {w w' : List ℕ} (a : Tally) → x ≡ Ok a → w' ≡ over (words a) w → PutStarted x w 0 w'
+put_done {w = w} a q v = record { answer = ap started_word (sym q); tally = v ∙ ap (λ (z : Result Tally Refusal). started_words z w) (sym q) }
 
 -- ---- the ways through
 
@@ -46,11 +45,11 @@ module _ (s : Settings) (w : List ℕ) (t : Tables) where
     unfolding fresh_card fresh_words fresh_tables
     fresh_few e = record { answer = rw (h, e); tally = rw (h, e); lent = rw e }
 
-    module _ (e : enough w ≡ true) (r : Started) (u : Tables) (s₀ : Settings) (made : s₀ ≡ s) (began : Freshly s₀ t r u) where
+    module _ (e : enough w ≡ true) (r : Result Tally Refusal) (u : Tables) (s₀ : Settings) (made : s₀ ≡ s) (began : Freshly s₀ t r u) where
       f : Freshly s t r u
       f = subst (λ (x : Settings). Freshly x t r u) made began
 
-      fresh_refused : (x : Refusal) → r ≡ Refused x → FreshWords s w t (answer_word (card_of x)) w u
+      fresh_refused : (x : Refusal) → r ≡ Err x → FreshWords s w t (answer_word (card_of x)) w u
       unfolding fresh_card fresh_words fresh_tables start_answer
       fresh_refused x q = go (long s t) refl
         where
@@ -58,7 +57,7 @@ module _ (s : Settings) (w : List ℕ) (t : Tables) where
           go true l = let p = (fresh_done s t r u f h l).0 in let z : ◌≡◌ {A = ℕ} 0 1 = cc in absurd (omega arith)
           go false l = record { answer = rw (h, e, l) (ap answer_word (sym (ap start_card q) ∙ f.answer ∙ rw (h, l))); tally = rw (h, e, l); lent = rw e f.lent }
 
-      fresh_started : (a : Tally) → r ≡ Done a → FreshWords s w t 0 (over (words a) w) u
+      fresh_started : (a : Tally) → r ≡ Ok a → FreshWords s w t 0 (over (words a) w) u
       unfolding fresh_card fresh_words fresh_tables start_answer answer_word word_of
       fresh_started a q = go (long s t) refl
         where
@@ -68,13 +67,13 @@ module _ (s : Settings) (w : List ℕ) (t : Tables) where
               let same : a ≡ fresh_tally s = cc in
               record { answer = rw (h, e, l); tally = rw (h, e, l) (ap (λ (x : Tally). over (words x) w) same); lent = rw e f.lent }
           go false l =
-              let p : start_card (Done a) ≡ refused 2 [] = sym (ap start_card q) ∙ f.answer ∙ rw (h, l) in
+              let p : start_card (Ok a) ≡ refused 2 [] = sym (ap start_card q) ∙ f.answer ∙ rw (h, l) in
               let z : ◌≡◌ {A = ℕ} 0 2 = ap (λ (c : Card). c.number) p in
               absurd (omega arith)
 
       pub fresh_put : (a : ℕ) (w' : List ℕ) → PutStarted r w a w' → FreshWords s w t a w' u
       fresh_put a w' p = go r refl p
         where
-          go : (x : Started) → r ≡ x → PutStarted x w a w' → FreshWords s w t a w' u
-          go (Refused x) q p = let z = fresh_refused x q in record { answer = p.answer ∙ z.answer; tally = p.tally ∙ z.tally; lent = z.lent }
-          go (Done x) q p = let z = fresh_started x q in record { answer = p.answer ∙ z.answer; tally = p.tally ∙ z.tally; lent = z.lent }
+          go : (x : Result Tally Refusal) → r ≡ x → PutStarted x w a w' → FreshWords s w t a w' u
+          go (Err x) q p = let z = fresh_refused x q in record { answer = p.answer ∙ z.answer; tally = p.tally ∙ z.tally; lent = z.lent }
+          go (Ok x) q p = let z = fresh_started x q in record { answer = p.answer ∙ z.answer; tally = p.tally ∙ z.tally; lent = z.lent }

@@ -7,6 +7,7 @@ use native.Mathlib.Omega.{arith}
 use lib.Dec.{leb}
 use lib.ListN.{length, take, get_or}
 use borrow.Author.Tests.{le-leb, lt-leb}
+use Rattle.std.specs.Prelude.{Result, Ok, Err}
 use Rattle.amounts.specs.Limits.{pick}
 use Rattle.amounts.specs.Requests.{Request}
 use Rattle.amounts.specs.declared.settings.Settings.{Settings}
@@ -17,9 +18,6 @@ use Rattle.trace.specs.Reading.{Read, good, stop, Opened, opened, shut, settings
 use Rattle.trace.specs.Writing.{Put, written}
 use Rattle.trace.specs.Cards.{answer_card, file_card, numbers, read_card, settings_read, put_card}
 use Rattle.trace.specs.Promise.{over, Over, room, ReadPart, ReadFile, Wrote}
-use Rattle.trace.specs.declared.answer.Answer.{Answer}
-use Rattle.trace.specs.declared.answer.Answer.TheVariants.{Done}
-use Rattle.trace.specs.declared.answer.FileRead as file
 use Rattle.card.proofs.Cases.{done_not_refused}
 use Rattle.words.specs.Words.{answer_word}
 use Rattle.snailstamp.specs.Steps.{read_word, read_words, PutRead, Unread}
@@ -27,10 +25,10 @@ use Rattle.snailstamp.specs.Traces.{in_place, file_taken, ReadFileAs, ReadFileWo
 
 -- ---- a further part, and the writers
 
-pub part_words : {c : ℕ} {part f s d : List ℕ} {a : Answer} {f' s' d' : List ℕ} {r : ℕ} → ReadPart c part f s d a f' s' d' → r ≡ answer_word (answer_card a) → ReadPartWords c part f s d r f' s' d'
+pub part_words : {c : ℕ} {part f s d : List ℕ} {a : Result ℕ Refusal} {f' s' d' : List ℕ} {r : ℕ} → ReadPart c part f s d a f' s' d' → r ≡ answer_word (answer_card a) → ReadPartWords c part f s d r f' s' d'
 part_words h e = record { answer = e ∙ ap answer_word h.answer; lists = h.lists }
 
-pub wrote_words : {p p' : Put} {o : List ℕ} {a : Answer} {o' : List ℕ} {r : ℕ} → p ≡ p' → Wrote p o a o' → r ≡ answer_word (answer_card a) → WroteWords p' o r o'
+pub wrote_words : {p p' : Put} {o : List ℕ} {a : Result ℕ Refusal} {o' : List ℕ} {r : ℕ} → p ≡ p' → Wrote p o a o' → r ≡ answer_word (answer_card a) → WroteWords p' o r o'
 wrote_words {o = o} q h e = record { answer = e ∙ ap answer_word (h.answer ∙ ap put_card q); buffer = h.buffer ∙ ap (λ (x : Put). over (written x) o) q }
 
 -- ---- a file whose settings have no room
@@ -55,12 +53,12 @@ module _ (trace : List ℕ) where
 
 -- ---- a file
 
-pub read_refused : {x : file.FileRead} {w : List ℕ} {r : ℕ} (y : Refusal) → x ≡ file.TheVariants.Refused y → r ≡ answer_word (card_of y) → PutRead x w r w
-read_refused {w = w} y q e = record { answer = e ∙ ap read_word (sym q); settings = ap (λ (z : file.FileRead). read_words z w) (sym q) }
+pub read_refused : {x : Result (Settings × ℕ) Refusal} {w : List ℕ} {r : ℕ} (y : Refusal) → x ≡ Err y → r ≡ answer_word (card_of y) → PutRead x w r w
+read_refused {w = w} y q e = record { answer = e ∙ ap read_word (sym q); settings = ap (λ (z : Result (Settings × ℕ) Refusal). read_words z w) (sym q) }
 
-pub read_done : {x : file.FileRead} {w : List ℕ} {r : ℕ} {w' : List ℕ} (st : Settings) (n : ℕ) → x ≡ file.TheVariants.Done st n → r ≡ answer_word (answer_card (Done n)) → w' ≡ over (numbers st) w
+pub read_done : {x : Result (Settings × ℕ) Refusal} {w : List ℕ} {r : ℕ} {w' : List ℕ} (st : Settings) (n : ℕ) → x ≡ Ok (st, n) → r ≡ answer_word (answer_card (Ok n)) → w' ≡ over (numbers st) w
     → PutRead x w r w'
-read_done {w = w} st n q e v = record { answer = e ∙ ap read_word (sym q); settings = v ∙ ap (λ (z : file.FileRead). read_words z w) (sym q) }
+read_done {w = w} st n q e v = record { answer = e ∙ ap read_word (sym q); settings = v ∙ ap (λ (z : Result (Settings × ℕ) Refusal). read_words z w) (sym q) }
 
 module _ (trace w f s d : List ℕ) where
   pub file_unread : (x : Refusal) → length w < 5 → Unread trace x → ReadFileWords trace w f s d (answer_word (card_of x)) w f s d
@@ -77,8 +75,8 @@ module _ (trace w f s d : List ℕ) where
   unfolding file_taken
   taken h = sym (rw (le-leb 5 (length w) h) (in_place_lem (file_read trace (room f s d))))
 
-  module _ (h : 5 ≤ length w) (a : file.FileRead) (f' s' d' : List ℕ) (g : ReadFile trace f s d a f' s' d') where
-    file_refused : (x : Refusal) → a ≡ file.TheVariants.Refused x → ReadFileWords trace w f s d (answer_word (card_of x)) w f' s' d'
+  module _ (h : 5 ≤ length w) (a : Result (Settings × ℕ) Refusal) (f' s' d' : List ℕ) (g : ReadFile trace f s d a f' s' d') where
+    file_refused : (x : Refusal) → a ≡ Err x → ReadFileWords trace w f s d (answer_word (card_of x)) w f' s' d'
     file_refused x q =
         subst (λ (z : Read). ReadFileAs z trace w f s d (answer_word (card_of x)) w f' s' d') (taken h) (go (file_read trace (room f s d)) (sym (ap file_card q) ∙ g.answer) g.lists)
       where
@@ -86,14 +84,14 @@ module _ (trace w f s d : List ℕ) where
         go (stop y) p o = record { answer = ap answer_word p; settings = refl; lists = o }
         go (good l) p o = absurd (done_not_refused x (sym p))
 
-    file_done : (st : Settings) (n : ℕ) → a ≡ file.TheVariants.Done st n → ReadFileWords trace w f s d (answer_word (answer_card (Done n))) (over (numbers st) w) f' s' d'
+    file_done : (st : Settings) (n : ℕ) → a ≡ Ok (st, n) → ReadFileWords trace w f s d (answer_word (answer_card (Ok n))) (over (numbers st) w) f' s' d'
     unfolding answer_word
     file_done st n q =
-        subst (λ (z : Read). ReadFileAs z trace w f s d (answer_word (answer_card (Done n))) (over (numbers st) w) f' s' d') (taken h)
+        subst (λ (z : Read). ReadFileAs z trace w f s d (answer_word (answer_card (Ok n))) (over (numbers st) w) f' s' d') (taken h)
         (go (settings_of (length trace) trace) refl (file_read trace (room f s d)) (sym (ap file_card q) ∙ g.answer) g.lists)
       where
         go : (o : Opened) → settings_of (length trace) trace ≡ o → (z : Read) → done (numbers st ++ (n ∷ [])) ≡ read_card (settings_read o) z → Over (rows z) f s d f' s' d'
-            → ReadFileAs z trace w f s d (answer_word (answer_card (Done n))) (over (numbers st) w) f' s' d'
+            → ReadFileAs z trace w f s d (answer_word (answer_card (Ok n))) (over (numbers st) w) f' s' d'
         go o k (stop y) p l = absurd (done_not_refused y p)
         go (shut y) k (good l) p o = let z : ◌≡◌ {A = ℕ} 6 1 = ap (λ (c : Card). length c.values) p in absurd (omega arith)
         go (opened st' rest) k (good l) p o =
@@ -106,6 +104,6 @@ module _ (trace w f s d : List ℕ) where
     pub file_put_lem : (r : ℕ) (w' : List ℕ) → PutRead a w r w' → ReadFileWords trace w f s d r w' f' s' d'
     file_put_lem r w' p = go a refl p
       where
-        go : (x : file.FileRead) → a ≡ x → PutRead x w r w' → ReadFileWords trace w f s d r w' f' s' d'
-        go (file.TheVariants.Refused x) q p = let z = file_refused x q in record { answer = p.answer ∙ z.answer; settings = p.settings ∙ z.settings; lists = z.lists }
-        go (file.TheVariants.Done st n) q p = let z = file_done st n q in record { answer = p.answer ∙ z.answer; settings = p.settings ∙ z.settings; lists = z.lists }
+        go : (x : Result (Settings × ℕ) Refusal) → a ≡ x → PutRead x w r w' → ReadFileWords trace w f s d r w' f' s' d'
+        go (Err x) q p = let z = file_refused x q in record { answer = p.answer ∙ z.answer; settings = p.settings ∙ z.settings; lists = z.lists }
+        go (Ok (st, n)) q p = let z = file_done st n q in record { answer = p.answer ∙ z.answer; settings = p.settings ∙ z.settings; lists = z.lists }

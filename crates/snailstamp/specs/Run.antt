@@ -1,24 +1,21 @@
 -- What a fresh start and a run carried on promise in words (docs/BOUNDARY.md). Assumes nothing.
-use Rattle.std.specs.Prelude.{◌≡◌, Bool, List, [], ℕ, ◌%◌, leb, length}
+use Rattle.std.specs.Prelude.{◌≡◌, Bool, List, [], ℕ, ◌%◌, leb, length, Result, Ok, Err, ⊤}
 use Rattle.amounts.specs.Limits.{pick, is_unit}
 use Rattle.amounts.specs.Settings.{in_range}
 use Rattle.amounts.specs.declared.settings.Settings.{Settings}
 use Rattle.card.specs.Card.{Card, done, refused, card_of}
+use Rattle.card.specs.declared.Refusal.{Refusal}
 use Rattle.card.specs.declared.Refusal.TheVariants.{Setting, Short}
 use Rattle.trace.specs.Cards.{answer_card}
 use Rattle.trace.specs.Promise.{over}
-use Rattle.trace.specs.declared.answer.Answer.{Answer}
-use Rattle.trace.specs.declared.answer.Answer.TheVariants.{Done, Refused}
 use Rattle.tables.specs.Tables.{Tables}
 use Rattle.tables.specs.Tally.{fresh_tally}
 use Rattle.tables.specs.Start.{words, long, start_tables}
 use Rattle.tables.specs.Renaming.{Renamed}
 use Rattle.tables.specs.declared.tally.Tally.{Tally}
-use Rattle.refusing.specs.declared.settings.Settled.{Settled}
-use Rattle.refusing.specs.declared.settings.Settled.TheVariants as verdict
-use Rattle.replay.specs.Carrying.{Carries}
+use Rattle.refusing.specs.Judging.{fine}
+use Rattle.replay.specs.Carrying.{Carried, Carries}
 use Rattle.serving.specs.Serving.{beyond_of}
-use Rattle.replay.specs.declared.carry.Carried.{Carried}
 use Rattle.words.specs.Words.{answer_word, tally_words, tally_in}
 
 -- docs/BOUNDARY.md: a tally of fewer words is too short
@@ -51,9 +48,9 @@ pub record Untouched (card : Card) (w : List ℕ) (t : Tables) (told : List ℕ)
   pub untold : told' ≡ told
 
 -- docs/BOUNDARY.md: the tally of a call that is done over the front of the words; none on a refusal
-abbrev pub carried_words : Answer → Tally → List ℕ → List ℕ
-carried_words (Done n) a w = over (words a) w
-carried_words (Refused x) a w = w
+abbrev pub carried_words : Result ℕ Refusal → Tally → List ℕ → List ℕ
+carried_words (Ok n) a w = over (words a) w
+carried_words (Err x) a w = w
 
 -- docs/BOUNDARY.md: what `carry_on` promises of the tally that the words stand for
 pub record CarriedOn (unit : ℕ) (part : List ℕ) (w : List ℕ) (t : Tables) (told : List ℕ) (r : ℕ) (w' : List ℕ) (u : Tables) (told' : List ℕ) : Type 0 where
@@ -63,13 +60,13 @@ pub record CarriedOn (unit : ℕ) (part : List ℕ) (w : List ℕ) (t : Tables) 
   pub tally : w' ≡ carried_words carried.answer carried.tally w
 
 -- docs/BOUNDARY.md: the unit named is judged first (1), then the tally's words (2), then all as `carry_on` judges it
-unfoldable pub worded : ℕ → List ℕ → Settled
-worded unit w = pick (is_unit unit) (pick (enough w) verdict.Fine (verdict.Refused Short)) (verdict.Refused Setting)
+unfoldable pub worded : ℕ → List ℕ → Result ⊤ Refusal
+worded unit w = pick (is_unit unit) (pick (enough w) fine (Err Short)) (Err Setting)
 
 module _ (unit : ℕ) (part : List ℕ) (w : List ℕ) (t : Tables) (told : List ℕ) (r : ℕ) (w' : List ℕ) (u : Tables) (told' : List ℕ) where
-  abbrev pub WordsSettle : Settled → Type 0
-  WordsSettle (verdict.Refused x) = Untouched (card_of x) w t told r w' u told'
-  WordsSettle verdict.Fine = CarriedOn unit part w t told r w' u told'
+  abbrev pub WordsSettle : Result ⊤ Refusal → Type 0
+  WordsSettle (Err x) = Untouched (card_of x) w t told r w' u told'
+  WordsSettle (Ok tt) = CarriedOn unit part w t told r w' u told'
 
   -- docs/BOUNDARY.md, what `snailstamp_carry_on` promises: told are the events at entry, told' at exit
   pub record CarriedWords : Type 0 where

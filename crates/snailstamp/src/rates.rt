@@ -4,26 +4,24 @@ ghost use Rattle.snailstamp.specs.Rates.{PutRated, RatioWords};
 
 use crate::run::TALLY_WORDS;
 use card::Refusal;
-use ratios::{Rated, ratios_of};
+use ratios::{Ratios, ratios_of};
 use words::{put_ratios, refusal_word, tally_from};
 
 // The doubles of both ratios.
 const RATIO_DOUBLES: usize = 2;
 
 // The answer as a word; where it is not refused and has room, both ratios over the front of the list.
-fn put_rated(rated: Rated, out: &mut [f64]) -> u64
+fn put_rated(rated: Result<Ratios, Refusal>, out: &mut [f64]) -> u64
     ensures { PutRated (ratio_card rated) out.old result out.new }
 {
     match rated {
-        Rated::Refused(refusal) => {
-            return refusal_word(refusal);
-        }
-        Rated::Done(both) => {
+        Err(refusal) => refusal_word(refusal),
+        Ok(both) => {
             if out.len() < RATIO_DOUBLES {
                 return refusal_word(Refusal::Room);
             }
             put_ratios(both, out);
-            return 0;
+            0
         }
     }
 }

@@ -2,48 +2,43 @@
 ghost use Rattle.std.specs.Prelude.{◌≤◌, length};
 ghost use Rattle.tables.specs.Tables.{tables};
 ghost use Rattle.words.specs.Words.{tally_words, settings_from};
-ghost use Rattle.snailstamp.specs.Steps.{PutStarted, PutCarried};
+ghost use Rattle.snailstamp.specs.Steps.{PutStarted, PutEnded};
 ghost use Rattle.snailstamp.specs.Run.{FreshWords, CarriedWords};
 
 use amounts::Unit;
 use card::Refusal;
-use replay::{Carried, carry_on};
-use tables::{Started, fresh};
-use trace::Answer;
+use parts::Ended;
+use replay::carry_on;
+use tables::{Tally, fresh};
 use words::{answer_word, put_words, refusal_word, settings_from, tally_from};
 
 // The words of a tally.
 pub(crate) const TALLY_WORDS: usize = 19;
 
 // The answer of a fresh start; where it was not refused, its tally over the front of the words.
-fn put_started(started: Started, out: &mut [u64]) -> u64
+fn put_started(started: Result<Tally, Refusal>, out: &mut [u64]) -> u64
     requires { tally_words ≤ length out.old }
     ensures { PutStarted started out.old result out.new }
 {
     match started {
-        Started::Refused(refusal) => {
-            return refusal_word(refusal);
-        }
-        Started::Done(a) => {
+        Err(refusal) => refusal_word(refusal),
+        Ok(a) => {
             put_words(a, out);
-            return 0;
+            0
         }
     }
 }
 
 // The answer of a run carried on; where it was not refused, its tally over the front of the words.
-fn put_carried(carried: Carried, out: &mut [u64]) -> u64
+fn put_carried(carried: Result<Ended, Refusal>, out: &mut [u64]) -> u64
     requires { tally_words ≤ length out.old }
-    ensures { PutCarried carried out.old result out.new }
+    ensures { PutEnded carried out.old result out.new }
 {
-    let answer = carried.answer;
-    match answer {
-        Answer::Refused(refusal) => {
-            return refusal_word(refusal);
-        }
-        Answer::Done(count) => {
-            put_words(carried.tally, out);
-            return answer_word(Answer::Done(count));
+    match carried {
+        Err(refusal) => refusal_word(refusal),
+        Ok(ended) => {
+            put_words(ended.tally, out);
+            answer_word(Ok(ended.events))
         }
     }
 }

@@ -4,9 +4,9 @@ ghost use Rattle.words.specs.Words.{settings_words, settings_from};
 ghost use Rattle.snailstamp.specs.Steps.{Unread, PutRead};
 ghost use Rattle.snailstamp.specs.Traces.{ReadFileWords, ReadPartWords, WroteFileWords, WrotePartWords};
 
-use amounts::Catalogue;
+use amounts::{Catalogue, Settings};
 use card::Refusal;
-use trace::{Answer, FileRead, Start, read_file, read_part, scan, settings_at};
+use trace::{read_file, read_part, scan, settings_at};
 use words::{answer_word, put_settings, refusal_word, settings_from};
 use writer::{write_file, write_part};
 
@@ -17,37 +17,25 @@ const SETTINGS_WORDS: usize = 5;
 fn refused_unread(trace: &[u8]) -> Refusal
     ensures { Unread trace.now result }
 {
-    let start = settings_at(trace);
-    match start {
-        Start::Refused(refusal) => {
-            return refusal;
-        }
-        Start::At(settings, at) => {
-            let found = scan(trace, settings.catalogue, at);
-            match found {
-                Answer::Refused(refusal) => {
-                    return refusal;
-                }
-                Answer::Done(_) => {
-                    return Refusal::Room;
-                }
-            }
-        }
+    match settings_at(trace) {
+        Err(refusal) => refusal,
+        Ok((settings, at)) => match scan(trace, settings.catalogue, at) {
+            Err(refusal) => refusal,
+            Ok(_) => Refusal::Room,
+        },
     }
 }
 
 // The answer of a file read; where it was not refused, its settings over the front of the words.
-fn put_read(read: FileRead, out: &mut [u64]) -> u64
+fn put_read(read: Result<(Settings, usize), Refusal>, out: &mut [u64]) -> u64
     requires { settings_words ≤ length out.old }
     ensures { PutRead read out.old result out.new }
 {
     match read {
-        FileRead::Refused(refusal) => {
-            return refusal_word(refusal);
-        }
-        FileRead::Done(found, count) => {
+        Err(refusal) => refusal_word(refusal),
+        Ok((found, count)) => {
             put_settings(found, out);
-            return answer_word(Answer::Done(count));
+            answer_word(Ok(count))
         }
     }
 }

@@ -1,5 +1,6 @@
 -- The promise of a fresh start admits one answer, and what it gives hangs on the settings alone. Assumes nothing.
 use mathlib.Core.Path.{◌≡◌, refl, sym, ap, ◌∙◌, subst}
+use Rattle.std.proofs.Common.{Result, Ok, Err}
 use mathlib.Core.Bool.{Bool, true, false}
 use mathlib.Core.List.{List}
 use Prim.Native.Nat.{ℕ}
@@ -7,13 +8,12 @@ use lib.ListN.{get_or, take, drop, replicate}
 use Rattle.amounts.specs.Limits.{pick, no_place}
 use Rattle.amounts.specs.Settings.{in_range}
 use Rattle.amounts.specs.declared.settings.Settings.{Settings}
+use Rattle.card.specs.declared.Refusal.{Refusal}
 use Rattle.card.proofs.Cases.{answer_on, bad_on}
 use Rattle.tables.specs.Tables.{Tables, tables, needed, beyond, filled, cleared}
 use Rattle.tables.specs.Tally.{fresh_tally}
 use Rattle.tables.specs.Start.{start_card, long, start_answer, start_tables, Freshly}
 use Rattle.tables.specs.declared.tally.Tally.{Tally}
-use Rattle.tables.specs.declared.start.Started.{Started}
-use Rattle.tables.specs.declared.start.Started.TheVariants.{Done, Refused}
 use Rattle.tables.specs.Sound.{Sound}
 use Rattle.tables.proofs.Lengths.{tables_eq}
 use Rattle.tables.proofs.Lists.{take_filled, drop_filled}
@@ -48,21 +48,21 @@ tally_of v =
       lifts = get_or v 18 0;
     }
 
-abbrev started_with : List ℕ → Started
-started_with v = Done (tally_of v)
+abbrev started_with : List ℕ → Result Tally Refusal
+started_with v = Ok (tally_of v)
 
-read_back : (r : Started) → answer_on started_with Refused (start_card r) ≡ r
+read_back : (r : Result Tally Refusal) → answer_on started_with Err (start_card r) ≡ r
 unfolding tally_of
-read_back (Done a) = refl
-read_back (Refused x) = bad_on started_with Refused x
+read_back (Ok a) = refl
+read_back (Err x) = bad_on started_with Err x
 
-pub one_card : (r r' : Started) → start_card r ≡ start_card r' → r ≡ r'
-one_card r r' e = sym (read_back r) ∙ ap (answer_on started_with Refused) e ∙ read_back r'
+pub one_card : (r r' : Result Tally Refusal) → start_card r ≡ start_card r' → r ≡ r'
+one_card r r' e = sym (read_back r) ∙ ap (answer_on started_with Err) e ∙ read_back r'
 
 -- ---- one answer
 
 -- two results that meet the promise of a fresh start are the same result
-pub fresh_one_answer : (s : Settings) (t : Tables) (r r' : Started) (u u' : Tables) → Freshly s t r u → Freshly s t r' u' → (r ≡ r') × (u ≡ u')
+pub fresh_one_answer : (s : Settings) (t : Tables) (r r' : Result Tally Refusal) (u u' : Tables) → Freshly s t r u → Freshly s t r' u' → (r ≡ r') × (u ≡ u')
 fresh_one_answer s t r r' u u' f g = (one_card r r' (f.answer ∙ sym g.answer), f.lent ∙ sym g.lent)
 
 -- ---- twins
@@ -79,11 +79,11 @@ beyond_cleared p n t =
     let z : (l : List ℕ) → drop p (filled p 0 l) ≡ drop p l = drop_filled p 0 in
     tables_eq (drop_filled n no_place t.place) (z t.file) (z t.size) (z t.cost) (z t.freq) (z t.key) (z t.stamp) (z t.queue)
 
-module _ (s : Settings) (t : Tables) (r : Started) (u : Tables) (f : Freshly s t r u) where
+module _ (s : Settings) (t : Tables) (r : Result Tally Refusal) (u : Tables) (f : Freshly s t r u) where
   -- with settings in range and tables long enough the answer is the new tally and the tables are cleared
-  pub fresh_done : in_range s ≡ true → long s t ≡ true → (r ≡ Done (fresh_tally s)) × (u ≡ cleared s.places.0 s.catalogue.0 t)
+  pub fresh_done : in_range s ≡ true → long s t ≡ true → (r ≡ Ok (fresh_tally s)) × (u ≡ cleared s.places.0 s.catalogue.0 t)
   unfolding start_answer start_tables
-  fresh_done h l = (one_card r (Done (fresh_tally s)) (f.answer ∙ rw (h, l)), f.lent ∙ rw (h, l))
+  fresh_done h l = (one_card r (Ok (fresh_tally s)) (f.answer ∙ rw (h, l)), f.lent ∙ rw (h, l))
 
   -- entries beyond the needed ones are as they were, whatever the answer
   pub fresh_beyond : beyond s.places.0 s.catalogue.0 u ≡ beyond s.places.0 s.catalogue.0 t
@@ -96,7 +96,7 @@ module _ (s : Settings) (t : Tables) (r : Started) (u : Tables) (f : Freshly s t
       go false b = refl
 
 -- two fresh starts with the same settings over any two sets of tables long enough: the same answer, and the same needed entries
-pub twins : (s : Settings) (t t' : Tables) (r r' : Started) (u u' : Tables) → Freshly s t r u → Freshly s t' r' u' → in_range s ≡ true → long s t ≡ true → long s t' ≡ true
+pub twins : (s : Settings) (t t' : Tables) (r r' : Result Tally Refusal) (u u' : Tables) → Freshly s t r u → Freshly s t' r' u' → in_range s ≡ true → long s t ≡ true → long s t' ≡ true
     → (r ≡ r') × (needed s.places.0 s.catalogue.0 u ≡ needed s.places.0 s.catalogue.0 u')
 twins s t t' r r' u u' f g h l m =
     let p : ℕ = s.places.0 in
@@ -106,5 +106,5 @@ twins s t t' r r' u u' f g h l m =
     (a.0 ∙ sym b.0, ap (needed p n) a.1 ∙ needed_cleared p n t ∙ sym (needed_cleared p n t') ∙ ap (needed p n) (sym b.1))
 
 -- and what they leave is sound
-pub freshly_sound : (s : Settings) (t : Tables) (r : Started) (u : Tables) → Freshly s t r u → in_range s ≡ true → long s t ≡ true → (r ≡ Done (fresh_tally s)) × Sound (fresh_tally s) u
+pub freshly_sound : (s : Settings) (t : Tables) (r : Result Tally Refusal) (u : Tables) → Freshly s t r u → in_range s ≡ true → long s t ≡ true → (r ≡ Ok (fresh_tally s)) × Sound (fresh_tally s) u
 freshly_sound s t r u f h l = let a = fresh_done s t r u f h l in (a.0, subst (Sound (fresh_tally s)) (sym a.1) (fresh_sound s t h))

@@ -10,5 +10,5 @@ mod tally;
 pub use length::long_enough;
 pub use records::Records;
 pub use shown::Tables;
-pub use start::{Started, fresh};
+pub use start::fresh;
 pub use tally::Tally;

@@ -8,12 +8,6 @@ use crate::tally::Tally;
 use amounts::{Places, Settings};
 use card::Refusal;
 
-#[derive(Clone, Copy)]
-pub enum Started {
-    Done(Tally),
-    Refused(Refusal),
-}
-
 // Every needed entry is set: no file has a place, and all else is 0.
 fn clear_all(
     places: usize,
@@ -51,11 +45,11 @@ pub fn fresh(
     key: &mut [u64],
     stamp: &mut [u64],
     queue: &mut [u16],
-) -> Started
+) -> Result<Tally, Refusal>
     ensures { Freshly settings (tables place.old file.old size.old cost.old freq.old key.old stamp.old queue.old) result (tables place.new file.new size.new cost.new freq.new key.new stamp.new queue.new) }
 {
     if !settings.in_range() {
-        return Started::Refused(Refusal::Setting);
+        return Err(Refusal::Setting);
     }
     let places = settings.places.count();
     let catalogue = settings.catalogue.count();
@@ -71,10 +65,10 @@ pub fn fresh(
         stamp.len(),
         queue.len(),
     ) {
-        return Started::Refused(Refusal::Short);
+        return Err(Refusal::Short);
     }
     clear_all(
         places, catalogue, place, file, size, cost, freq, key, stamp, queue,
     );
-    Started::Done(Tally::new(settings))
+    Ok(Tally::new(settings))
 }

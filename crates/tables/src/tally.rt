@@ -29,7 +29,7 @@ impl Tally {
         ensures { result ≡ fresh_tally settings }
     {
         Tally {
-            settings: settings,
+            settings,
             inflation: Key(0),
             bytes_kept: Bytes(0),
             files_kept: 0,

@@ -6,6 +6,7 @@ use mathlib.Core.Bool.{true, false}
 use native.Mathlib.Omega.{arith}
 use borrow.Author.Tests.{le-leb, lt-leb}
 use lib.ListN.{length, drop, get_or}
+use Rattle.std.specs.Prelude.{Result, Ok, Err}
 use Rattle.amounts.specs.Limits.{is_catalogue}
 use Rattle.amounts.specs.declared.settings.Settings.{Settings}
 use Rattle.card.specs.Card.{Card, done, card_of}
@@ -17,11 +18,6 @@ use Rattle.trace.specs.Reading.{Read, good, stop, read_of, roomy, rows, Opened, 
 use Rattle.trace.specs.Cards.{answer_card, read_card, numbers, opening_card, opened_card, opening_answer}
 use Rattle.trace.specs.Promise.{Over, room, ReadPart, ReadFile}
 use Rattle.trace.specs.Steps.{counted, ReadFrom}
-use Rattle.trace.specs.declared.answer.Answer.{Answer}
-use Rattle.trace.specs.declared.answer.Answer.TheVariants.{Done, Refused}
-use Rattle.trace.specs.declared.answer.FileRead.TheVariants as file
-use Rattle.trace.specs.declared.answer.Start.{Start}
-use Rattle.trace.specs.declared.answer.Start.TheVariants.{At, Refused as Shut}
 use Rattle.trace.proofs.Enough.{after_drop}
 use Rattle.trace.proofs.Walks.{offset_drop}
 use Rattle.trace.proofs.Taking.{five, five_after}
@@ -31,18 +27,18 @@ module _ (f s d : List ℕ) where
   untouched = record { in_files = refl; in_sizes = refl; in_costs = refl }
 
   -- the requests are refused, have no room, or are put into the lists
-  pub from_refused : (x : Read) (r : Refusal) → Refused r ≡ counted 0 x → ReadFrom x f s d (Refused r) f s d
+  pub from_refused : (x : Read) (r : Refusal) → Err r ≡ counted 0 x → ReadFrom x f s d (Err r) f s d
   from_refused (good l) r e = let z : ◌≡◌ {A = ℕ} 0 1 = cc in absurd (omega arith)
   from_refused (stop a) r e = record { answer = e; lists = untouched }
 
-  pub from_room : (x : Read) (count : ℕ) → Done count ≡ counted 0 x → room f s d < count → ReadFrom x f s d (Refused Room) f s d
+  pub from_room : (x : Read) (count : ℕ) → Ok count ≡ counted 0 x → room f s d < count → ReadFrom x f s d (Err Room) f s d
   from_room (good l) count e h =
       let n : count ≡ 0 + length l = cc in
       let t = lt-leb (length l) (room f s d) (omega arith) in
       record { answer = rw t; lists = rw t untouched }
   from_room (stop a) count e h = let z : ◌≡◌ {A = ℕ} 0 1 = cc in absurd (omega arith)
 
-  pub from_done : (x : Read) (count : ℕ) (f' s' d' : List ℕ) → Done count ≡ counted 0 x → count ≤ room f s d → Over (rows x) f s d f' s' d' → ReadFrom x f s d (Done count) f' s' d'
+  pub from_done : (x : Read) (count : ℕ) (f' s' d' : List ℕ) → Ok count ≡ counted 0 x → count ≤ room f s d → Over (rows x) f s d f' s' d' → ReadFrom x f s d (Ok count) f' s' d'
   from_done (good l) count f' s' d' e h o =
       let n : count ≡ 0 + length l = cc in
       let t = le-leb (length l) (room f s d) (omega arith) in
@@ -61,41 +57,41 @@ settings_in v =
     }
 
 -- the card of an answer is the card of the read
-card_refused : (front : List ℕ) (x : Read) (r : Refusal) → Refused r ≡ counted 0 x → card_of r ≡ read_card front x
+card_refused : (front : List ℕ) (x : Read) (r : Refusal) → Err r ≡ counted 0 x → card_of r ≡ read_card front x
 card_refused front (good l) r e = let z : ◌≡◌ {A = ℕ} 0 1 = cc in absurd (omega arith)
 card_refused front (stop a) r e = let h : r ≡ a = cc in ap card_of h
 
-card_done : (front : List ℕ) (x : Read) (m : ℕ) → Done m ≡ counted 0 x → done (front ++ (m ∷ [])) ≡ read_card front x
+card_done : (front : List ℕ) (x : Read) (m : ℕ) → Ok m ≡ counted 0 x → done (front ++ (m ∷ [])) ≡ read_card front x
 card_done front (good l) m e = let n : m ≡ 0 + length l = cc in let n' : m ≡ length l = omega arith in ap (λ (k : ℕ). done (front ++ (k ∷ []))) n'
 card_done front (stop a) m e = let z : ◌≡◌ {A = ℕ} 0 1 = cc in absurd (omega arith)
 
-card_answer : (x : Read) (r : Answer) → r ≡ counted 0 x → answer_card r ≡ read_card [] x
-card_answer x (Done m) e = card_done [] x m e
-card_answer x (Refused a) e = card_refused [] x a e
+card_answer : (x : Read) (r : Result ℕ Refusal) → r ≡ counted 0 x → answer_card r ≡ read_card [] x
+card_answer x (Ok m) e = card_done [] x m e
+card_answer x (Err a) e = card_refused [] x a e
 
 module _ (f s d : List ℕ) (c : ℕ) (part : List ℕ) where
-  pub part_setting : is_catalogue c ≡ false → ReadPart c part f s d (Refused Setting) f s d
+  pub part_setting : is_catalogue c ≡ false → ReadPart c part f s d (Err Setting) f s d
   unfolding part_read
   part_setting e = record { answer = rw e; lists = rw e (untouched f s d) }
 
-  pub part_from : is_catalogue c ≡ true → (r : Answer) (f' s' d' : List ℕ) → ReadFrom (read_of (length part) c part) f s d r f' s' d' → ReadPart c part f s d r f' s' d'
+  pub part_from : is_catalogue c ≡ true → (r : Result ℕ Refusal) (f' s' d' : List ℕ) → ReadFrom (read_of (length part) c part) f s d r f' s' d' → ReadPart c part f s d r f' s' d'
   unfolding part_read
   part_from e r f' s' d' h = record { answer = rw e (card_answer (roomy (room f s d) (read_of (length part) c part)) r h.answer); lists = rw e h.lists }
 
 module _ (f s d : List ℕ) (trace : List ℕ) where
-  pub file_shut : (r : Refusal) → settings_of (length trace) trace ≡ shut r → ReadFile trace f s d (file.Refused r) f s d
+  pub file_shut : (r : Refusal) → settings_of (length trace) trace ≡ shut r → ReadFile trace f s d (Err r) f s d
   unfolding file_read
   file_shut r e = record { answer = rw e; lists = rw e (untouched f s d) }
 
-  module _ (st : Settings) (rest : List ℕ) (e : settings_of (length trace) trace ≡ opened st rest) (f' s' d' : List ℕ) (a : Answer) (h : ReadFrom (read_of (length trace) st.catalogue.0 rest) f s d a f' s' d') where
+  module _ (st : Settings) (rest : List ℕ) (e : settings_of (length trace) trace ≡ opened st rest) (f' s' d' : List ℕ) (a : Result ℕ Refusal) (h : ReadFrom (read_of (length trace) st.catalogue.0 rest) f s d a f' s' d') where
     x : Read
     x = roomy (room f s d) (read_of (length trace) st.catalogue.0 rest)
 
-    pub file_refused : (r : Refusal) → a ≡ Refused r → ReadFile trace f s d (file.Refused r) f' s' d'
+    pub file_refused : (r : Refusal) → a ≡ Err r → ReadFile trace f s d (Err r) f' s' d'
     unfolding file_read x
     file_refused r q = record { answer = rw e (card_refused (numbers st) x r (sym q ∙ h.answer)); lists = rw e h.lists }
 
-    pub file_done : (count : ℕ) → a ≡ Done count → ReadFile trace f s d (file.Done st count) f' s' d'
+    pub file_done : (count : ℕ) → a ≡ Ok count → ReadFile trace f s d (Ok (st, count)) f' s' d'
     unfolding file_read x
     file_done count q = record { answer = rw e (card_done (numbers st) x count (sym q ∙ h.answer)); lists = rw e h.lists }
 
@@ -105,12 +101,12 @@ module _ (trace : List ℕ) where
   unfolding opening_answer
   opening_shut r e = ap (opened_card (length trace)) (sym e)
 
-  pub opening_at : (st : Settings) (at : ℕ) → at ≤ length trace → settings_of (length trace) trace ≡ opened st (drop at trace) → opening_card (At st at) ≡ opening_answer trace
+  pub opening_at : (st : Settings) (at : ℕ) → at ≤ length trace → settings_of (length trace) trace ≡ opened st (drop at trace) → opening_card (Ok (st, at)) ≡ opening_answer trace
   unfolding opening_answer
   opening_at st at h e = rw (e, offset_drop trace at)
 
   -- and what the bytes are where they have answered, by the case
-  pub start_shut : (x : Start) (r : Refusal) → opening_card x ≡ opening_answer trace → x ≡ Shut r → settings_of (length trace) trace ≡ shut r
+  pub start_shut : (x : Result (Settings × ℕ) Refusal) (r : Refusal) → opening_card x ≡ opening_answer trace → x ≡ Err r → settings_of (length trace) trace ≡ shut r
   unfolding opening_answer
   start_shut x r p e = go (settings_of (length trace) trace) (sym (ap opening_card e) ∙ p)
     where
@@ -118,11 +114,11 @@ module _ (trace : List ℕ) where
       go (shut y) q = ap shut (refusal_one y r (sym q))
       go (opened s rest) q = absurd (done_not_refused r (sym q))
 
-  pub start_at : (x : Start) (st : Settings) (at : ℕ) → opening_card x ≡ opening_answer trace → x ≡ At st at → (at ≤ length trace) × (settings_of (length trace) trace ≡ opened st (drop at trace))
+  pub start_at : (x : Result (Settings × ℕ) Refusal) (st : Settings) (at : ℕ) → opening_card x ≡ opening_answer trace → x ≡ Ok (st, at) → (at ≤ length trace) × (settings_of (length trace) trace ≡ opened st (drop at trace))
   unfolding opening_answer
   start_at x st at p e = go (settings_of (length trace) trace) refl (sym (ap opening_card e) ∙ p)
     where
-      go : (o : Opened) → settings_of (length trace) trace ≡ o → opening_card (At st at) ≡ opened_card (length trace) o → (at ≤ length trace) × (o ≡ opened st (drop at trace))
+      go : (o : Opened) → settings_of (length trace) trace ≡ o → opening_card (Ok (st, at)) ≡ opened_card (length trace) o → (at ≤ length trace) × (o ≡ opened st (drop at trace))
       go (shut y) k q = absurd (done_not_refused y q)
       go (opened s rest) k q =
           let same : s ≡ st = ap (λ (c : Card). settings_in c.values) (sym q) in

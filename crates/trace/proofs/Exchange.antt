@@ -7,6 +7,7 @@ use native.Mathlib.Omega.{arith}
 use borrow.Author.Tests.{lt-ltb, ltb-true, le-ltb, le-leb}
 use lib.ListN.{length, take, drop, get_or, length-map}
 use lib.Seq.{take_at}
+use Rattle.std.specs.Prelude.{Ok}
 use Rattle.amounts.specs.Limits.{pick, is_catalogue, is_size, is_cost}
 use Rattle.amounts.specs.Settings.{in_range}
 use Rattle.amounts.specs.Requests.{Request, Ranged, AllRanged}
@@ -19,7 +20,6 @@ use Rattle.trace.specs.Fields.{is_file, is_request}
 use Rattle.trace.specs.Reading.{good, read_of, FileReads}
 use Rattle.trace.specs.Writing.{part_bytes, settings_bytes, file_bytes, requests_in, first_out, Put, bytes, stop, in_order, listed, part_put, file_put}
 use Rattle.trace.specs.Promise.{files_of, sizes_of, costs_of, Wrote, WrotePart, WroteFile}
-use Rattle.trace.specs.declared.answer.Answer.TheVariants.{Done}
 use Rattle.trace.proofs.Judging.{passed}
 use Rattle.card.proofs.Cases.{done_not_refused}
 use Rattle.trace.proofs.RoundTrip.{part_back, part_again, part_ranged, file_back, file_again, file_ranged}
@@ -54,14 +54,14 @@ guarded : (t : Bool) (p : Put) (bs : List ℕ) → pick t p (stop Setting) ≡ b
 guarded true p bs e = (refl, e)
 guarded false p bs e = let z : ◌≡◌ {A = ℕ} 0 1 = cc in absurd (omega arith)
 
-wrote_done : (p : Put) (o : List ℕ) (n : ℕ) (o' : List ℕ) → Wrote p o (Done n) o' → p ≡ bytes (take n o')
+wrote_done : (p : Put) (o : List ℕ) (n : ℕ) (o' : List ℕ) → Wrote p o (Ok n) o' → p ≡ bytes (take n o')
 wrote_done (bytes bs) o n o' w =
     let e : length bs ≡ n = ap (λ (c : Card). get_or c.values 0 0) (sym w.answer) in
     ap bytes (sym (take_at bs (drop (length bs) o) n e) ∙ ap (take n) (sym w.buffer))
 wrote_done (stop r) o n o' w = absurd (done_not_refused r w.answer)
 
 -- what `write_part` leaves at the front of its buffer reads back as the requests of the lists
-pub part_exchanged : (c : ℕ) (f s d o : List ℕ) (n : ℕ) (o' : List ℕ) → WrotePart c f s d o (Done n) o' → (m : ℕ) → read_of m c (take n o') ≡ good (requests_in f s d)
+pub part_exchanged : (c : ℕ) (f s d o : List ℕ) (n : ℕ) (o' : List ℕ) → WrotePart c f s d o (Ok n) o' → (m : ℕ) → read_of m c (take n o') ≡ good (requests_in f s d)
 unfolding part_put
 part_exchanged c f s d o n o' w m =
     let g = guarded (is_catalogue c) (listed c [] (length o) f s d) (take n o') (wrote_done _ o n o' w) in
@@ -69,7 +69,7 @@ part_exchanged c f s d o n o' w m =
     rw p.same (part_back m c g.0 (requests_in f s d) (none_out c (requests_in f s d) p.in_range_lem))
 
 -- what `write_file` leaves at the front of its buffer reads back as the settings and the requests of the lists
-pub file_exchanged : (st : Settings) (f s d o : List ℕ) (n : ℕ) (o' : List ℕ) → WroteFile st f s d o (Done n) o' → FileReads (take n o') st (requests_in f s d)
+pub file_exchanged : (st : Settings) (f s d o : List ℕ) (n : ℕ) (o' : List ℕ) → WroteFile st f s d o (Ok n) o' → FileReads (take n o') st (requests_in f s d)
 unfolding file_put
 file_exchanged st f s d o n o' w =
     let g = guarded (in_range st) (listed st.catalogue.0 (settings_bytes st) (length o) f s d) (take n o') (wrote_done _ o n o' w) in

@@ -6,14 +6,14 @@ use mathlib.Core.Bool.{true, false}
 use native.Mathlib.Omega.{arith}
 use borrow.Author.Tests.{le-leb, lt-leb, lt-ltb, le-ltb}
 use lib.ListN.{length, drop, get_or, drop_of_length-le, length-append}
+use Rattle.std.specs.Prelude.{Result, Ok, Err}
 use Rattle.amounts.specs.Requests.{Request}
 use Rattle.amounts.proofs.Tests.{pick_true, pick_false}
+use Rattle.card.specs.declared.Refusal.{Refusal}
 use Rattle.card.specs.declared.Refusal.TheVariants.{Short, Range, Room}
 use Rattle.trace.specs.Fields.{is_request}
 use Rattle.trace.specs.Writing.{request_bytes, part_bytes, requests_in, first_out}
 use Rattle.trace.specs.Stores.{Listed, sized, Measured, Judged, Roomy, Laid}
-use Rattle.trace.specs.declared.answer.Answer.{Answer}
-use Rattle.trace.specs.declared.answer.Answer.TheVariants.{Done, Refused}
 use Rattle.trace.proofs.Groups.{at_drop}
 use Rattle.trace.proofs.Laying.{Left, left_more}
 
@@ -78,29 +78,29 @@ module _ (head : ℕ) (l : List Request) (room : ℕ) where
   together : (front : List ℕ) → head ≡ length front → head + length (part_bytes l) ≡ length (front ++ part_bytes l)
   together front e = omega (arith, length-append front (part_bytes l))
 
-  pub measured_short : room < head + length (part_bytes l) → Measured head l room (Refused Room)
+  pub measured_short : room < head + length (part_bytes l) → Measured head l room (Err Room)
   measured_short h = record { told = λ front e. ap sized (sym (pick_false _ _ (lt-leb (length (front ++ part_bytes l)) room (omega (arith, together front e))))) }
 
-  pub measured_long : (total : ℕ) → head + length (part_bytes l) ≡ total → total ≤ room → Measured head l room (Done total)
+  pub measured_long : (total : ℕ) → head + length (part_bytes l) ≡ total → total ≤ room → Measured head l room (Ok total)
   measured_long total q h =
       record {
-        told = λ front e. ap Done (sym q ∙ together front e) ∙ ap sized (sym (pick_true _ _ (le-leb (length (front ++ part_bytes l)) room (omega (arith, together front e)))));
+        told = λ front e. ap Ok (sym q ∙ together front e) ∙ ap sized (sym (pick_true _ _ (le-leb (length (front ++ part_bytes l)) room (omega (arith, together front e)))));
       }
 
 module _ (c head room : ℕ) (f s d : List ℕ) where
-  pub judged_short : min (length s) (length d) < length f → Judged c head room f s d (Refused Short)
+  pub judged_short : min (length s) (length d) < length f → Judged c head room f s d (Err Short)
   judged_short h = record { told = λ front e. ap sized (sym (pick_false _ _ (lt-leb _ _ h))) }
 
   module _ (h : Listed f s d) (bad : ℕ) (e : bad ≡ first_out c (requests_in f s d)) where
     enough : length f ≤ min (length s) (length d)
     enough = omega (arith, h.sizes, h.costs)
 
-    pub judged_range : bad < length f → Judged c head room f s d (Refused (Range bad))
+    pub judged_range : bad < length f → Judged c head room f s d (Err (Range bad))
     judged_range l =
         let out : first_out c (requests_in f s d) < length (requests_in f s d) = omega (arith, listed_many f s d h) in
-        record { told = λ front p. ap (λ (i : ℕ). Refused (Range i)) e ∙ ap sized (sym (pick_true _ _ (le-leb _ _ enough) ∙ pick_true _ _ (lt-ltb _ _ out))) }
+        record { told = λ front p. ap (λ (i : ℕ). Err (Range i)) e ∙ ap sized (sym (pick_true _ _ (le-leb _ _ enough) ∙ pick_true _ _ (lt-ltb _ _ out))) }
 
-    pub judged_room : length f ≤ bad → (r : Answer) → Measured head (requests_in f s d) room r → Judged c head room f s d r
+    pub judged_room : length f ≤ bad → (r : Result ℕ Refusal) → Measured head (requests_in f s d) room r → Judged c head room f s d r
     judged_room l r m =
         let all_in : length (requests_in f s d) ≤ first_out c (requests_in f s d) = omega (arith, listed_many f s d h) in
         record { told = λ front p. m.told front p ∙ ap sized (sym (pick_true _ _ (le-leb _ _ enough) ∙ pick_false _ _ (le-ltb _ _ all_in))) }
@@ -108,11 +108,11 @@ module _ (c head room : ℕ) (f s d : List ℕ) where
 -- the loop that adds up the bytes: `total` are counted, and those from an index on are left
 module _ (f s d : List ℕ) (h : Listed f s d) (head room total i : ℕ) (e : head + length (part_bytes (requests_in f s d)) ≡ total + length (part_bytes (rest_at f s d i))) (within : total ≤ room) where
   module _ (inside : i < length f) (more : ℕ) (same : more ≡ length (request_bytes (row_at f s d i))) where
-    pub measure_short : room - total < more → Measured head (requests_in f s d) room (Refused Room)
+    pub measure_short : room - total < more → Measured head (requests_in f s d) room (Err Room)
     measure_short l = measured_short head (requests_in f s d) room (omega (arith, bytes_more f s d h i inside))
 
     pub measure_more : head + length (part_bytes (requests_in f s d)) ≡ (total + more) + length (part_bytes (rest_at f s d (i + 1)))
     measure_more = omega (arith, bytes_more f s d h i inside)
 
-  pub measure_end : length f ≤ i → Measured head (requests_in f s d) room (Done total)
+  pub measure_end : length f ≤ i → Measured head (requests_in f s d) room (Ok total)
   measure_end l = measured_long head (requests_in f s d) room total (omega (arith, bytes_end f s d h i l)) within

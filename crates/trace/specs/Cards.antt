@@ -1,32 +1,30 @@
 -- The paper's number and values of each answer (document 01, "Numbers on the red card"). Assumes nothing.
-use Rattle.std.specs.Prelude.{ℕ, List, [], ◌∷◌, ◌++◌, length}
+use Rattle.std.specs.Prelude.{ℕ, List, [], ◌∷◌, ◌++◌, length, Result, Ok, Err}
 use Rattle.amounts.specs.declared.settings.Settings.{Settings}
+use Rattle.card.specs.declared.Refusal.{Refusal}
 use Rattle.card.specs.Card.{Card, done, card_of}
 use Rattle.trace.specs.Fields.{offset}
 use Rattle.trace.specs.Reading.{Read, good, stop, Opened, opened, shut, settings_of, part_read, file_read}
 use Rattle.trace.specs.Writing as w
-use Rattle.trace.specs.declared.answer.Answer as answer
-use Rattle.trace.specs.declared.answer.FileRead as file
-use Rattle.trace.specs.declared.answer.Start as start
 
 -- document 01, "The forms we use": the number and values of each case of an answer
-abbrev pub answer_card : answer.Answer → Card
-answer_card (answer.TheVariants.Done n) = done (n ∷ [])
-answer_card (answer.TheVariants.Refused r) = card_of r
+abbrev pub answer_card : Result ℕ Refusal → Card
+answer_card (Ok n) = done (n ∷ [])
+answer_card (Err r) = card_of r
 
 -- document 01, "Trace bytes": the five settings in their order
 abbrev pub numbers : Settings → List ℕ
 numbers s = s.unit.0 ∷ s.policy.0 ∷ s.capacity.0 ∷ s.places.0 ∷ s.catalogue.0 ∷ []
 
 -- document 01, "The forms we use": the same for a file, whose result begins with its settings
-abbrev pub file_card : file.FileRead → Card
-file_card (file.TheVariants.Done s n) = done (numbers s ++ (n ∷ []))
-file_card (file.TheVariants.Refused r) = card_of r
+abbrev pub file_card : Result (Settings × ℕ) Refusal → Card
+file_card (Ok (s, n)) = done (numbers s ++ (n ∷ []))
+file_card (Err r) = card_of r
 
 -- document 01, "The forms we use": the same for the front of a file: its settings, then the offset after them
-abbrev pub opening_card : start.Start → Card
-opening_card (start.TheVariants.At s at) = done (numbers s ++ (at ∷ []))
-opening_card (start.TheVariants.Refused r) = card_of r
+abbrev pub opening_card : Result (Settings × ℕ) Refusal → Card
+opening_card (Ok (s, at)) = done (numbers s ++ (at ∷ []))
+opening_card (Err r) = card_of r
 
 -- document 01, "Numbers on the red card", reading: how many requests, behind what `front` gives; or the refusal
 abbrev pub read_card : List ℕ → Read → Card

@@ -1,13 +1,12 @@
 -- What the functions below the reading entry points promise: the steps of their loops. Assumes nothing.
-use Rattle.std.specs.Prelude.{ℕ, ◌+◌, ◌*◌, ◌%◌, ◌^◌, ◌≤◌, ◌<◌, ◌≡◌, List, ◌∷◌, true, length, drop, ltb, eqb}
+use Rattle.std.specs.Prelude.{ℕ, ◌+◌, ◌*◌, ◌%◌, ◌^◌, ◌≤◌, ◌<◌, ◌≡◌, List, ◌∷◌, true, length, drop, ltb, eqb, Result, Ok, Err}
 use Rattle.amounts.specs.Limits.{pick, is_catalogue}
 use Rattle.amounts.specs.Requests.{Request}
 use Rattle.amounts.specs.declared.settings.Settings.{Settings}
+use Rattle.card.specs.declared.Refusal.{Refusal}
 use Rattle.trace.specs.Number.{num, decode}
 use Rattle.trace.specs.Reading.{Read, good, stop, read_of, roomy, rows}
 use Rattle.trace.specs.Promise.{Over, room}
-use Rattle.trace.specs.declared.answer.Answer.{Answer}
-use Rattle.trace.specs.declared.answer.Answer.TheVariants.{Done, Refused}
 use Rattle.trace.specs.declared.number.Number.{Number}
 use Rattle.trace.specs.declared.number.Group.{Group}
 use Rattle.trace.specs.declared.number.Next.{Next}
@@ -64,21 +63,21 @@ pub record RequestAt (part : List ℕ) (at : ℕ) (r : Taken) : Type 0 where
   pub first : (n catalogue : ℕ) (q : Request) (l : List Request) → is_catalogue catalogue ≡ true → read_of n catalogue (drop at part) ≡ good (q ∷ l) → First part n catalogue r q l
 
 -- what the checking pass answers, after k requests counted already
-abbrev pub counted : ℕ → Read → Answer
-counted k (good l) = Done (k + length l)
-counted k (stop r) = Refused r
+abbrev pub counted : ℕ → Read → Result ℕ Refusal
+counted k (good l) = Ok (k + length l)
+counted k (stop r) = Err r
 
 -- the checking pass has counted the requests, and there is room for them
 pub record Ready (part : List ℕ) (catalogue from count : ℕ) (f s d : List ℕ) : Type 0 where
   pub catalogue_in : is_catalogue catalogue ≡ true
   pub inside : from ≤ length part
-  pub counts : counted 0 (read_of (length part) catalogue (drop from part)) ≡ Done count
+  pub counts : counted 0 (read_of (length part) catalogue (drop from part)) ≡ Ok count
   pub room_files : count ≤ length f
   pub room_sizes : count ≤ length s
   pub room_costs : count ≤ length d
 
 -- the requests x that the bytes hold, or the refusal, answered and put into the lists
-pub record ReadFrom (x : Read) (f s d : List ℕ) (r : Answer) (f' s' d' : List ℕ) : Type 0 where
+pub record ReadFrom (x : Read) (f s d : List ℕ) (r : Result ℕ Refusal) (f' s' d' : List ℕ) : Type 0 where
   pub answer : r ≡ counted 0 (roomy (room f s d) x)
   pub lists : Over (rows (roomy (room f s d) x)) f s d f' s' d'
 

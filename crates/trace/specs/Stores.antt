@@ -1,10 +1,9 @@
 -- What the functions below the writing entry points promise: the steps of their loops. Assumes nothing.
-use Rattle.std.specs.Prelude.{ℕ, ◌+◌, ◌≤◌, ◌≡◌, List, ◌++◌, length}
+use Rattle.std.specs.Prelude.{ℕ, ◌+◌, ◌≤◌, ◌≡◌, List, ◌++◌, length, Result, Ok, Err}
 use Rattle.std.proofs.lemmas.List.Edits.{sets}
 use Rattle.amounts.specs.Requests.{Request}
+use Rattle.card.specs.declared.Refusal.{Refusal}
 use Rattle.trace.specs.Writing.{part_bytes, Put, bytes, stop, in_room, listed}
-use Rattle.trace.specs.declared.answer.Answer.{Answer}
-use Rattle.trace.specs.declared.answer.Answer.TheVariants.{Done, Refused}
 
 -- the sizes and costs are as many as the files, or more
 pub record Listed (f s d : List ℕ) : Type 0 where
@@ -12,16 +11,16 @@ pub record Listed (f s d : List ℕ) : Type 0 where
   pub costs : length f ≤ length d
 
 -- how many bytes there are to write, or the refusal
-abbrev pub sized : Put → Answer
-sized (bytes bs) = Done (length bs)
-sized (stop r) = Refused r
+abbrev pub sized : Put → Result ℕ Refusal
+sized (bytes bs) = Ok (length bs)
+sized (stop r) = Err r
 
 -- r tells whether the bytes of l have room behind `head` others, whatever those are
-pub record Measured (head : ℕ) (l : List Request) (room : ℕ) (r : Answer) : Type 0 where
+pub record Measured (head : ℕ) (l : List Request) (room : ℕ) (r : Result ℕ Refusal) : Type 0 where
   pub told : (front : List ℕ) → head ≡ length front → r ≡ sized (in_room room (front ++ part_bytes l))
 
 -- r tells whether the requests of the lists can be written behind `head` bytes, whatever those are
-pub record Judged (catalogue head room : ℕ) (f s d : List ℕ) (r : Answer) : Type 0 where
+pub record Judged (catalogue head room : ℕ) (f s d : List ℕ) (r : Result ℕ Refusal) : Type 0 where
   pub told : (front : List ℕ) → head ≡ length front → r ≡ sized (listed catalogue front room f s d)
 
 -- there is room for some bytes from a place on

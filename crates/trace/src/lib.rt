@@ -1,11 +1,9 @@
 // Trace files and further parts of a trace: house numbers, what reading and writing mean, and the reader (document 01, "Trace bytes").
 #![tactic(auto)]
 
-mod answer;
 mod number;
 mod opening;
 mod reader;
 
-pub use answer::{Answer, FileRead, Start};
 pub use opening::{read_file, settings_at};
 pub use reader::{Taken, in_request, read_part, request_at, scan};

@@ -5,7 +5,6 @@ ghost use Rattle.trace.specs.Cards.{opening_card, opening_answer};
 ghost use Rattle.trace.specs.Steps.{unset_settings, with_setting};
 ghost use Rattle.trace.specs.Promise.{ReadFile};
 
-use crate::answer::{Answer, FileRead, Start};
 use crate::number::{Group, Next, take_group};
 use crate::reader::read_from;
 use amounts::{Bytes, Catalogue, Places, Policy, Settings, Unit};
@@ -74,16 +73,16 @@ fn with_setting(s: Settings, field: u64, value: u64) -> Settings
 }
 
 // The settings at the front of a file, field by field. Left from the innermost loop at the first bad group.
-pub fn settings_at(trace: &[u8]) -> Start
+pub fn settings_at(trace: &[u8]) -> Result<(Settings, usize), Refusal>
     ensures { opening_card result ≡ opening_answer trace.now }
 {
-    let mut answer = Start::Refused(Refusal::Setting);
+    let mut answer: Result<(Settings, usize), Refusal> = Err(Refusal::Setting);
     let mut settings = unset();
     let mut at: usize = 0;
     let mut field: u64 = 0;
     'fields: loop {
         if field == 5 {
-            answer = Start::At(settings, at);
+            answer = Ok((settings, at));
             break 'fields;
         }
         let start = at;
@@ -94,13 +93,13 @@ pub fn settings_at(trace: &[u8]) -> Start
         };
         'groups: loop {
             if at == trace.len() {
-                answer = Start::Refused(Refusal::Form(start));
+                answer = Err(Refusal::Form(start));
                 break 'fields;
             }
             let next = take_group(g, trace[at]);
             match next {
                 Next::Bad => {
-                    answer = Start::Refused(Refusal::Form(start));
+                    answer = Err(Refusal::Form(start));
                     break 'fields;
                 }
                 Next::More(h) => {
@@ -109,7 +108,7 @@ pub fn settings_at(trace: &[u8]) -> Start
                 }
                 Next::Last(value) => {
                     if !in_settings(field, value) {
-                        answer = Start::Refused(Refusal::Setting);
+                        answer = Err(Refusal::Setting);
                         break 'fields;
                     }
                     settings = with_setting(settings, field, value);
@@ -124,24 +123,15 @@ pub fn settings_at(trace: &[u8]) -> Start
 }
 
 // The settings of a file, and its requests into the fronts of three lists.
-pub fn read_file(trace: &[u8], files: &mut [u16], sizes: &mut [u32], costs: &mut [u16]) -> FileRead
+pub fn read_file(
+    trace: &[u8],
+    files: &mut [u16],
+    sizes: &mut [u32],
+    costs: &mut [u16],
+) -> Result<(Settings, usize), Refusal>
     ensures { ReadFile trace.now files.old sizes.old costs.old result files.new sizes.new costs.new }
 {
-    let start = settings_at(trace);
-    match start {
-        Start::Refused(refusal) => {
-            return FileRead::Refused(refusal);
-        }
-        Start::At(settings, at) => {
-            let read = read_from(trace, settings.catalogue, at, files, sizes, costs);
-            match read {
-                Answer::Refused(refusal) => {
-                    return FileRead::Refused(refusal);
-                }
-                Answer::Done(count) => {
-                    return FileRead::Done(settings, count);
-                }
-            }
-        }
-    }
+    let (settings, at) = settings_at(trace)?;
+    let count = read_from(trace, settings.catalogue, at, files, sizes, costs)?;
+    Ok((settings, count))
 }

@@ -6,7 +6,6 @@ ghost use Rattle.trace.specs.Reading.{read_of, rows};
 ghost use Rattle.trace.specs.Steps.{Requested, RequestAt, counted, Ready, ReadFrom};
 ghost use Rattle.trace.specs.Promise.{Over, ReadPart};
 
-use crate::answer::Answer;
 use crate::number::{Group, Next, number_at, take_group};
 use amounts::{Bytes, Catalogue, Cost};
 use card::Refusal;
@@ -25,16 +24,16 @@ pub fn in_request(catalogue: Catalogue, field: u64, value: u64) -> bool
 }
 
 // The checking pass: how many requests there are from a place on, or the refusal. Left from the innermost loop at the first bad group.
-pub fn scan(part: &[u8], catalogue: Catalogue, from: usize) -> Answer
+pub fn scan(part: &[u8], catalogue: Catalogue, from: usize) -> Result<usize, Refusal>
     requires { from ≤ length part.now }
     ensures { result ≡ counted 0 (read_of (length part.now) catalogue.0 (drop from part.now)) }
 {
-    let mut answer = Answer::Refused(Refusal::Setting);
+    let mut answer: Result<usize, Refusal> = Err(Refusal::Setting);
     let mut count: usize = 0;
     let mut at = from;
     'requests: loop {
         if at == part.len() {
-            answer = Answer::Done(count);
+            answer = Ok(count);
             break 'requests;
         }
         let mut field: u64 = 0;
@@ -47,13 +46,13 @@ pub fn scan(part: &[u8], catalogue: Catalogue, from: usize) -> Answer
             };
             'groups: loop {
                 if at == part.len() {
-                    answer = Answer::Refused(Refusal::Form(start));
+                    answer = Err(Refusal::Form(start));
                     break 'requests;
                 }
                 let next = take_group(g, part[at]);
                 match next {
                     Next::Bad => {
-                        answer = Answer::Refused(Refusal::Form(start));
+                        answer = Err(Refusal::Form(start));
                         break 'requests;
                     }
                     Next::More(h) => {
@@ -62,7 +61,7 @@ pub fn scan(part: &[u8], catalogue: Catalogue, from: usize) -> Answer
                     }
                     Next::Last(value) => {
                         if !in_request(catalogue, field, value) {
-                            answer = Answer::Refused(Refusal::Range(start));
+                            answer = Err(Refusal::Range(start));
                             break 'requests;
                         }
                         at += 1;
@@ -137,30 +136,17 @@ pub(crate) fn read_from(
     files: &mut [u16],
     sizes: &mut [u32],
     costs: &mut [u16],
-) -> Answer
+) -> Result<usize, Refusal>
     requires from_in_bounds { from ≤ length part.now }
     requires catalogue_value { is_catalogue catalogue.0 ≡ true }
     ensures { ReadFrom (read_of (length part.now) catalogue.0 (drop from part.now)) files.old sizes.old costs.old result files.new sizes.new costs.new }
 {
-    let checked = scan(part, catalogue, from);
-    match checked {
-        Answer::Refused(refusal) => {
-            return Answer::Refused(refusal);
-        }
-        Answer::Done(count) => {
-            if files.len() < count {
-                return Answer::Refused(Refusal::Room);
-            }
-            if sizes.len() < count {
-                return Answer::Refused(Refusal::Room);
-            }
-            if costs.len() < count {
-                return Answer::Refused(Refusal::Room);
-            }
-            fill(part, catalogue.0, from, count, files, sizes, costs);
-            return Answer::Done(count);
-        }
+    let count = scan(part, catalogue, from)?;
+    if files.len() < count || sizes.len() < count || costs.len() < count {
+        return Err(Refusal::Room);
     }
+    fill(part, catalogue.0, from, count, files, sizes, costs);
+    Ok(count)
 }
 
 // The requests of a further part, into the fronts of three lists.
@@ -170,11 +156,11 @@ pub fn read_part(
     files: &mut [u16],
     sizes: &mut [u32],
     costs: &mut [u16],
-) -> Answer
+) -> Result<usize, Refusal>
     ensures { ReadPart catalogue.0 part.now files.old sizes.old costs.old result files.new sizes.new costs.new }
 {
     if !catalogue.in_range() {
-        return Answer::Refused(Refusal::Setting);
+        return Err(Refusal::Setting);
     }
     read_from(part, catalogue, 0, files, sizes, costs)
 }

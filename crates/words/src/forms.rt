@@ -9,7 +9,6 @@ ghost use Rattle.words.specs.Words.{word_of, answer_word, tally_words, settings_
 use amounts::{Bytes, Catalogue, Cost, Key, Places, Policy, Settings, Unit};
 use card::Refusal;
 use tables::Tally;
-use trace::Answer;
 
 // One more than the largest value that has room beside a number.
 const VALUES: u64 = 72057594037927936;
@@ -33,12 +32,12 @@ pub fn refusal_word(refusal: Refusal) -> u64
 }
 
 // The word of what the reader, the writer or a run answers.
-pub fn answer_word(answer: Answer) -> u64
+pub fn answer_word(answer: Result<usize, Refusal>) -> u64
     ensures { result ≡ answer_word (answer_card answer) }
 {
     match answer {
-        Answer::Done(count) => word(count, 0),
-        Answer::Refused(refusal) => refusal_word(refusal),
+        Ok(count) => word(count, 0),
+        Err(refusal) => refusal_word(refusal),
     }
 }
 
@@ -74,7 +73,7 @@ pub fn tally_from(tally: &[u64]) -> Tally
 {
     let settings = settings_from(tally[0], tally[1], tally[2], tally[3], tally[4]);
     Tally {
-        settings: settings,
+        settings,
         inflation: Key(tally[5]),
         bytes_kept: Bytes(tally[6]),
         files_kept: tally[7],

@@ -1,7 +1,9 @@
 -- `dropping::stale::drop_stale` meets its contract. Assumes nothing.
-use mathlib.Core.Path.{◌≡◌}
+use Prim.Native.Nat.{ℕ}
+use mathlib.Core.Path.{◌≡◌, ap, ◌∙◌}
 use native.Mathlib.Omega.{arith}
 use lib.ListN.{get_or}
+use Rattle.method.specs.Events.{event}
 use Rattle.dropping.proofs.Cleanings.{still_out, still_same, space, known, drops}
 use Rattle.dropping.proofs.stale.drop_stale.Goals as goal
 
@@ -21,4 +23,4 @@ pub bounds-events-at : goal.bounds-events-at
 bounds-events-at c = omega (arith, space c.requires c.if-home.false)
 
 pub returns : goal.returns
-returns c = drops c.requires c.if-home.false c.from-p.ensures (λ e. omega (arith, e, c.from.ensures, c.if-from-z.false)) c.event.ensures c.drop_copy-tally.ensures
+returns c = drops c.requires c.if-home.false c.from-p.ensures (λ e. omega (arith, e, c.from.ensures, c.if-from-z.false)) (c.event.ensures ∙ ap (λ (k : ℕ). event k c.args.f) c.from-2.ensures) c.drop_copy-tally.ensures

@@ -1,6 +1,5 @@
 -- `layout::whole::put_sheet` meets its contract. Assumes nothing.
-use mathlib.Core.Path.{refl, ap, sym, ◌∙◌}
-use Rattle.lines.specs.Lines.{refused_line}
+use mathlib.Core.Path.{refl}
 use Rattle.lines.proofs.Items.{laid_as}
 use Rattle.layout.proofs.Ways.{too_long, start_refused, start_inside, start_given, start_same}
 use Rattle.layout.proofs.whole.put_sheet.Goals as goal
@@ -10,18 +9,16 @@ returns-then-trace-gt-INPUT_MOST c = laid_as (too_long c.args.trace.now c.if-tra
 
 -- the requests begin inside the bytes
 pub slice_bounds-put_file-count : goal.slice_bounds-put_file-count
-slice_bounds-put_file-count c = start_inside c.args.trace.now c.if-trace-gt-INPUT_MOST.false _ c.in-At.ensures _ _ refl
+slice_bounds-put_file-count c = start_inside c.args.trace.now c.if-trace-gt-INPUT_MOST.false _ c.in-Ok.ensures _ _ refl
 
 pub slice_bounds-put_file-start : goal.slice_bounds-put_file-start
-slice_bounds-put_file-start c = start_inside c.args.trace.now c.if-trace-gt-INPUT_MOST.false _ c.in-At.ensures _ _ refl
+slice_bounds-put_file-start c = start_inside c.args.trace.now c.if-trace-gt-INPUT_MOST.false _ c.in-Ok.ensures _ _ refl
 
-pub put_file-requires : goal.put_file-requires
-put_file-requires c = record { given = start_given c.args.trace.now c.if-trace-gt-INPUT_MOST.false _ c.in-At.ensures _ _ refl; ample = c.requires }
+pub put_file-requires-clause-given : goal.put_file-requires-clause-given
+put_file-requires-clause-given c = start_given c.args.trace.now c.if-trace-gt-INPUT_MOST.false _ c.in-Ok.ensures _ _ refl
 
-pub returns-in-Refused : goal.returns-in-Refused
-returns-in-Refused c =
-    let p = start_refused c.args.trace.now c.if-trace-gt-INPUT_MOST.false _ c.in-Refused.ensures _ refl in
-    laid_as (p ∙ ap refused_line (sym c.number.ensures)) c.put_refused-in-Refused.ensures
+pub returns-in-Err : goal.returns-in-Err
+returns-in-Err c = laid_as (start_refused c.args.trace.now c.if-trace-gt-INPUT_MOST.false _ c.in-Err.ensures _ refl) c.put_refused-in-Err.ensures
 
-pub returns-in-At : goal.returns-in-At
-returns-in-At c = laid_as (start_same c.args.trace.now c.if-trace-gt-INPUT_MOST.false _ c.in-At.ensures _ _ refl) c.put_file.ensures
+pub returns-in-Ok : goal.returns-in-Ok
+returns-in-Ok c = laid_as (start_same c.args.trace.now c.if-trace-gt-INPUT_MOST.false _ c.in-Ok.ensures _ _ refl) c.put_file.ensures

@@ -5,26 +5,26 @@ use Rattle.lines.proofs.page.put_page.Goals as goal
 
 pub put_item-at_events-requires : goal.put_item-at_events-requires
 unfolding page
-put_item-at_events-requires c = roomy_front _ _ _ _ c.requires.roomy
+put_item-at_events-requires c = roomy_front _ _ _ _ c.requires
 
 -- after each line, there is room for those that are left
-pub put_events-at_counts-requires-clause-roomy : goal.put_events-at_counts-requires-clause-roomy
+pub put_events-at_counts-requires : goal.put_events-at_counts-requires
 unfolding page
-put_events-at_counts-requires-clause-roomy c =
-    let room-events = roomy_next _ _ _ _ _ _ c.put_item-at_events.ensures c.requires.roomy in
+put_events-at_counts-requires c =
+    let room-events = roomy_next _ _ _ _ _ _ c.put_item-at_events.ensures c.requires in
     roomy_front _ _ _ _ room-events
 
 pub put_counts-at_bytes-requires : goal.put_counts-at_bytes-requires
 unfolding page
 put_counts-at_bytes-requires c =
-    let room-events = roomy_next _ _ _ _ _ _ c.put_item-at_events.ensures c.requires.roomy in
+    let room-events = roomy_next _ _ _ _ _ _ c.put_item-at_events.ensures c.requires in
     let room-counts = roomy_next _ _ _ _ _ _ c.put_events-at_counts.ensures room-events in
     roomy_front _ _ _ _ room-counts
 
 pub put_asked-at_costs-requires : goal.put_asked-at_costs-requires
 unfolding page
 put_asked-at_costs-requires c =
-    let room-events = roomy_next _ _ _ _ _ _ c.put_item-at_events.ensures c.requires.roomy in
+    let room-events = roomy_next _ _ _ _ _ _ c.put_item-at_events.ensures c.requires in
     let room-counts = roomy_next _ _ _ _ _ _ c.put_events-at_counts.ensures room-events in
     let room-bytes = roomy_next _ _ _ _ _ _ c.put_counts-at_bytes.ensures room-counts in
     roomy_front _ _ _ _ room-bytes
@@ -32,7 +32,7 @@ put_asked-at_costs-requires c =
 pub put_asked-at_last-requires : goal.put_asked-at_last-requires
 unfolding page
 put_asked-at_last-requires c =
-    let room-events = roomy_next _ _ _ _ _ _ c.put_item-at_events.ensures c.requires.roomy in
+    let room-events = roomy_next _ _ _ _ _ _ c.put_item-at_events.ensures c.requires in
     let room-counts = roomy_next _ _ _ _ _ _ c.put_events-at_counts.ensures room-events in
     let room-bytes = roomy_next _ _ _ _ _ _ c.put_counts-at_bytes.ensures room-counts in
     let room_costs = roomy_next _ _ _ _ _ _ c.put_asked-at_costs.ensures room-bytes in
@@ -41,7 +41,7 @@ put_asked-at_last-requires c =
 pub put_last-requires : goal.put_last-requires
 unfolding page
 put_last-requires c =
-    let room-events = roomy_next _ _ _ _ _ _ c.put_item-at_events.ensures c.requires.roomy in
+    let room-events = roomy_next _ _ _ _ _ _ c.put_item-at_events.ensures c.requires in
     let room-counts = roomy_next _ _ _ _ _ _ c.put_events-at_counts.ensures room-events in
     let room-bytes = roomy_next _ _ _ _ _ _ c.put_counts-at_bytes.ensures room-counts in
     let room_costs = roomy_next _ _ _ _ _ _ c.put_asked-at_costs.ensures room-bytes in

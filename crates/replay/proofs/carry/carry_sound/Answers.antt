@@ -10,13 +10,13 @@ is_sound-requires c =
     let few = (bounded c.args.a.settings o.range).places.1 in
     record { range = o.range; long = o.long; entry_long = few; free_long = few }
 
-pub room_for-found-requires : goal.room_for-found-requires
-room_for-found-requires c =
+pub room_for-requires : goal.room_for-requires
+room_for-requires c =
     let v = c.is_sound.ensures in
     judgeable _ _ c.requires (v.yes c.if-not-is_sound.false)
 
-pub serve_part-ended-requires : goal.serve_part-ended-requires
-serve_part-ended-requires c =
+pub serve_part-requires : goal.serve_part-requires
+serve_part-requires c =
     let few = (bounded c.args.a.settings c.requires.range).places.1 in
     let running = sound_running _ _ _ _ _ _ _ c.is_sound.ensures c.requires c.if-not-is_sound.false few few in
-    fits_ready _ _ _ _ _ _ _ running (sym c.in-Done.ensures)
+    fits_ready _ _ _ _ _ _ _ running (sym c.in_ok-count.ensures)

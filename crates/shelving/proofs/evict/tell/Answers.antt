@@ -9,8 +9,8 @@ use Rattle.shelving.proofs.evict.tell.Goals as goal
 -- the file is the last entry's
 pub loop-last-preserved : goal.loop-last-preserved
 loop-last-preserved c =
-    let is_last : let x = c.args in c.from.result ≡ get_or x.file.now (get_or x.queue.now (c.loop-last.last - 1) 0) 0 = c.from.ensures ∙ ap (λ (k : ℕ). get_or c.args.file.now k 0) c.from-p.ensures in
-    telling_more _ _ _ _ _ _ _ _ _ _ c.loop-last.invariant c.loop-last-test.true (c.event.ensures ∙ ap (event 5) is_last)
+    let is_last : let x = c.args in c.from-2.result ≡ get_or x.file.now (get_or x.queue.now (c.loop-last.last - 1) 0) 0 = c.from-2.ensures ∙ ap (λ (k : ℕ). get_or c.args.file.now k 0) c.from-p.ensures in
+    telling_more _ _ _ _ _ _ _ _ _ _ c.loop-last.invariant c.loop-last-test.true (c.event.ensures ∙ (λ i. event (c.from.ensures i) (is_last i)))
 
 pub returns : goal.returns
 returns c = telling_end _ _ _ _ _ _ _ _ _ c.loop-last.invariant c.loop-last-test.false

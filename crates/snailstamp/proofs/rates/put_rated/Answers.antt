@@ -2,5 +2,5 @@
 use Rattle.snailstamp.proofs.Rating.{put_done}
 use Rattle.snailstamp.proofs.rates.put_rated.Goals as goal
 
-pub returns-in-Done : goal.returns-in-Done
-returns-in-Done c = put_done _ _ c.in-Done.is c.if-out-lt-RATIO_DOUBLES.false c.put_ratios.ensures
+pub returns-else-out-lt-RATIO_DOUBLES : goal.returns-else-out-lt-RATIO_DOUBLES
+returns-else-out-lt-RATIO_DOUBLES c = put_done _ _ c.in-Ok.is c.if-out-lt-RATIO_DOUBLES.false c.put_ratios.ensures

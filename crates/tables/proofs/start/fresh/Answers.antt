@@ -1,9 +1,9 @@
 -- `tables::start::fresh` meets its contract. Assumes nothing.
 use mathlib.Core.Path.{◌≡◌, ap, ◌∙◌}
+use Rattle.std.proofs.Common.{Ok}
 use Rattle.amounts.proofs.Tests.{told}
 use Rattle.tables.specs.Tables.{Tables, tables, is_long, cleared}
 use Rattle.tables.specs.Start.{start_card, long}
-use Rattle.tables.specs.declared.start.Started.TheVariants.{Done}
 use Rattle.tables.proofs.Lengths.{long_of}
 use Rattle.tables.proofs.Starting.{fresh_0, fresh_1, fresh_2}
 use Rattle.tables.proofs.start.fresh.Goals as goal
@@ -31,6 +31,6 @@ returns c =
     let t = lent in
     let z = fresh_0 _ _ (told c.in_range.ensures c.if-not-in_range.false) (told measured c.if-not-long_enough.false) in
     record {
-      answer = ap (λ a. start_card (Done a)) c.new.ensures ∙ z.answer;
+      answer = ap (λ a. start_card (Ok a)) c.new.ensures ∙ z.answer;
       lent = c.clear_all.ensures ∙ (λ i. cleared (c.count-places.ensures i) (c.count-catalogue.ensures i) t) ∙ z.lent;
     }

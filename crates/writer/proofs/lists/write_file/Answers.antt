@@ -1,5 +1,6 @@
 -- `writer::lists::write_file` meets its contract. Assumes nothing.
 use mathlib.Core.Path.{refl}
+use Rattle.std.proofs.lemmas.Result.{err_from_is_err_and}
 use Rattle.amounts.proofs.Tests.{told}
 use Rattle.trace.proofs.Laying.{roomy_front, roomy_next}
 use Rattle.trace.proofs.Judging.{file_room, file_setting, file_refused, file_done}
@@ -8,21 +9,23 @@ use Rattle.writer.proofs.lists.write_file.Goals as goal
 pub returns-then-not-in_range : goal.returns-then-not-in_range
 returns-then-not-in_range c = file_setting _ _ _ _ _ (told c.in_range.ensures c.if-not-in_range.true)
 
-pub returns-in-Refused : goal.returns-in-Refused
-returns-in-Refused c =
-    file_refused _ _ _ _ _ (told c.in_range.ensures c.if-not-in_range.false) _ c.settings_width-head.ensures _ c.in-Refused.ensures _ refl
+pub returns-in_err-count : goal.returns-in_err-count
+returns-in_err-count c =
+    let p = err_from_is_err_and c.from_residual.result c.from_residual.ensures.1 in
+    rw (p.1, p.2)
+    (file_refused _ _ _ _ _ (told c.in_range.ensures c.if-not-in_range.false) _ c.settings_width-head.ensures _ c.in_err-count.ensures _ refl)
 
 pub put_settings-from-requires : goal.put_settings-from-requires
 put_settings-from-requires c =
     let ok = told c.in_range.ensures c.if-not-in_range.false in
-    let p = file_room _ _ _ _ _ ok _ c.settings_width-head.ensures _ c.in-Done.ensures _ refl in
+    let p = file_room _ _ _ _ _ ok _ c.settings_width-head.ensures _ c.in_ok-count.ensures _ refl in
     record { settings_value = ok; roomy = roomy_front _ _ _ _ p.1 }
 
 pub put_part-requires : goal.put_part-requires
 put_part-requires c =
-    let p = file_room _ _ _ _ _ (told c.in_range.ensures c.if-not-in_range.false) _ c.settings_width-head.ensures _ c.in-Done.ensures _ refl in
+    let p = file_room _ _ _ _ _ (told c.in_range.ensures c.if-not-in_range.false) _ c.settings_width-head.ensures _ c.in_ok-count.ensures _ refl in
     record { listed = p.0; roomy = roomy_next _ _ _ _ _ _ c.put_settings-from.ensures p.1 }
 
-pub returns-in-Done : goal.returns-in-Done
-returns-in-Done c =
-    file_done _ _ _ _ _ (told c.in_range.ensures c.if-not-in_range.false) _ c.settings_width-head.ensures _ c.in-Done.ensures _ refl _ _ _ _ c.put_settings-from.ensures c.put_part.ensures
+pub returns : goal.returns
+returns c =
+    file_done _ _ _ _ _ (told c.in_range.ensures c.if-not-in_range.false) _ c.settings_width-head.ensures _ c.in_ok-count.ensures _ refl _ _ _ _ c.put_settings-from.ensures c.put_part.ensures
