@@ -6,4 +6,4 @@ mod opening;
 mod reader;
 
 pub use opening::{read_file, settings_at};
-pub use reader::{Taken, in_request, read_part, request_at, scan};
+pub use reader::{Taken, is_file, read_part, request_at, scan};
