@@ -53,9 +53,9 @@ RequestRead x part catalogue at r = MatchResult r (RequestVal x part catalogue a
 
 -- r is the request q, and l are the requests after it
 pub record First (part : List ℕ) (n catalogue : ℕ) (r : Taken) (q : Request) (l : List Request) : Type 0 where
-  pub file : r.file ≡ q.file
-  pub size : r.size ≡ q.size
-  pub cost : r.cost ≡ q.cost
+  pub file : r.request.file ≡ q.file
+  pub size : r.request.size ≡ q.size
+  pub cost : r.request.cost ≡ q.cost
   pub inside : r.next ≤ length part
   pub rest : read_of n catalogue (drop r.next part) ≡ good l
 

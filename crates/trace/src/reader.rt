@@ -1,21 +1,14 @@
 // Reading requests, from a further part or from behind the settings of a file.
 ghost use Rattle.std.specs.Prelude.{◌≡◌, true, ◌≤◌, ◌<◌, length, drop};
 ghost use Rattle.amounts.specs.Limits.{is_catalogue};
-ghost use Rattle.trace.specs.Fields.{is_file};
 ghost use Rattle.trace.specs.Reading.{read_of, rows};
 ghost use Rattle.trace.specs.Steps.{Requested, RequestAt, RequestRead, counted, Ready, ReadFrom};
 ghost use Rattle.trace.specs.Promise.{Over, ReadPart};
 
 use crate::number::{number_at, read_field};
+use crate::request::{Request, is_file};
 use amounts::{Bytes, Catalogue, Cost};
 use card::Refusal;
-
-// Whether a number is a file of the catalogue.
-pub fn is_file(catalogue: Catalogue, file: u64) -> bool
-    ensures { result ≡ is_file catalogue.0 file }
-{
-    file < catalogue.0
-}
 
 // The place after the request at a place, whose three fields are judged one by one.
 fn past_request(part: &[u8], catalogue: Catalogue, at: usize) -> Result<usize, Refusal>
@@ -50,9 +43,7 @@ pub fn scan(part: &[u8], catalogue: Catalogue, from: usize) -> Result<usize, Ref
 // A request of the part, and the place after it.
 #[derive(Clone, Copy)]
 pub struct Taken {
-    pub file: u16,
-    pub size: u32,
-    pub cost: u16,
+    pub request: Request,
     pub next: usize,
 }
 
@@ -62,14 +53,15 @@ pub fn request_at(part: &[u8], at: usize) -> Taken
     ensures { RequestAt part.now at result }
 {
     let file = number_at(part, at);
-    let at_size = file.next;
-    let size = number_at(part, at_size);
-    let at_cost = size.next;
-    let cost = number_at(part, at_cost);
-    Taken {
+    let size = number_at(part, file.next);
+    let cost = number_at(part, size.next);
+    let request = Request {
         file: (file.value % 65536) as u16,
         size: (size.value % 4294967296) as u32,
         cost: (cost.value % 65536) as u16,
+    };
+    Taken {
+        request,
         next: cost.next,
     }
 }
@@ -89,11 +81,11 @@ pub(crate) fn fill(
 {
     let mut at = from;
     for i in 0..count {
-        let request = request_at(part, at);
-        files[i] = request.file;
-        sizes[i] = request.size;
-        costs[i] = request.cost;
-        at = request.next;
+        let taken = request_at(part, at);
+        files[i] = taken.request.file;
+        sizes[i] = taken.request.size;
+        costs[i] = taken.request.cost;
+        at = taken.next;
     }
 }
 

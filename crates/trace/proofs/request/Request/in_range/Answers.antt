@@ -1,10 +1,10 @@
--- `writer::lists::ranged` meets its contract. Assumes nothing.
+-- `trace::request::Request::in_range` meets its contract. Assumes nothing.
 use mathlib.Core.Path.{sym, ◌∙◌}
 use mathlib.Core.Bool.{true≢false}
 use Rattle.amounts.proofs.Tests.{told}
 use Rattle.trace.specs.Fields.{is_request}
-use Rattle.writer.proofs.lists.ranged.Goals as goal
-use Rattle.writer.proofs.lists.ranged.Goals.{then-is_file, else-is_file}
+use Rattle.trace.proofs.request.Request.in_range.Goals as goal
+use Rattle.trace.proofs.request.Request.in_range.Goals.{then-is_file, else-is_file}
 
 pub returns-then-is_size : goal.returns-then-is_size
 unfolding is_request
