@@ -10,4 +10,3 @@ mod word;
 pub use entry::{Entry, Line};
 pub use field::{Span, Ten};
 pub use log::{squid_file, squid_part};
-pub use number::Number;

@@ -19,7 +19,7 @@ use Rattle.trace.specs.Cards.{answer_card, read_card, numbers, opening_card, ope
 use Rattle.trace.specs.Promise.{Over, room, ReadPart, ReadFile}
 use Rattle.trace.specs.Steps.{counted, ReadFrom}
 use Rattle.trace.proofs.Enough.{after_drop}
-use Rattle.trace.proofs.Walks.{offset_drop}
+use Rattle.trace.proofs.Fields.{offset_drop}
 use Rattle.trace.proofs.Taking.{five, five_after}
 
 module _ (f s d : List ℕ) where

@@ -20,7 +20,7 @@ pub record After (s rest : List ℕ) : Type 0 where
   pub same : s ≡ front ++ rest
   pub some : 0 < length front
 
-after_shorter : {s rest : List ℕ} → After s rest → length rest < length s
+pub after_shorter : {s rest : List ℕ} → After s rest → length rest < length s
 after_shorter {rest = rest} p = omega (arith, p.some, ap length p.same, length-append p.front rest)
 
 pub after_then : {s t u : List ℕ} → After s t → After t u → After s u

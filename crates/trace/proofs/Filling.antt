@@ -40,12 +40,12 @@ module _ (part : List ℕ) (c from count : ℕ) (f₀ s₀ d₀ : List ℕ) (rea
       }
 
   pub filling_more : (f s d : List ℕ) (at i : ℕ) → Filling part c (all_of part c from) f₀ s₀ d₀ f s d at i → i < count → (r : Taken) → RequestAt part at r
-      → Filling part c (all_of part c from) f₀ s₀ d₀ (set f i r.file) (set s i r.size) (set d i r.cost) r.next (i + 1)
+      → Filling part c (all_of part c from) f₀ s₀ d₀ (set f i r.request.file) (set s i r.request.size) (set d i r.request.cost) r.next (i + 1)
   filling_more f s d at i w h r a = go w.rest w.left w.number w.in_files w.in_sizes w.in_costs
     where
       go : (l : List Request) → read_of (length part) c (drop at part) ≡ good l → i + length l ≡ length (all_of part c from)
           → Left (files_of (all_of part c from)) 0 f₀ (files_of l) i f → Left (sizes_of (all_of part c from)) 0 s₀ (sizes_of l) i s → Left (costs_of (all_of part c from)) 0 d₀ (costs_of l) i d
-          → Filling part c (all_of part c from) f₀ s₀ d₀ (set f i r.file) (set s i r.size) (set d i r.cost) r.next (i + 1)
+          → Filling part c (all_of part c from) f₀ s₀ d₀ (set f i r.request.file) (set s i r.request.size) (set d i r.request.cost) r.next (i + 1)
       go [] e n hf hs hd = absurd (omega (arith, all_many))
       go (q ∷ l) e n hf hs hd =
           let p = a.first (length part) c q l ready.catalogue_in e in

@@ -1,13 +1,12 @@
 -- The laws of reading and writing.
 pub mod Groups
 pub mod Enough
-pub mod Walks
+pub mod Fields
 pub mod Scanning
 pub mod Laying
 pub mod Taking
 pub mod Filling
 pub mod Answers
-pub mod Heading
 pub mod Spelling
 pub mod Listing
 pub mod Ranges

@@ -5,7 +5,7 @@ use mathlib.Core.List.{List, [], ◌∷◌, ◌++◌}
 use mathlib.Core.Bool.{true, false}
 use native.Mathlib.Omega.{arith}
 use borrow.Author.Tests.{le-leb, lt-leb, lt-ltb, le-ltb}
-use lib.ListN.{length, drop, get_or, drop_of_length-le, length-append}
+use lib.ListN.{length, drop, drop_of_length-le, length-append}
 use Rattle.std.specs.Prelude.{Result, Ok, Err}
 use Rattle.amounts.specs.Requests.{Request}
 use Rattle.amounts.proofs.Tests.{pick_true, pick_false}
@@ -13,7 +13,7 @@ use Rattle.card.specs.declared.Refusal.{Refusal}
 use Rattle.card.specs.declared.Refusal.TheVariants.{Short, Range, Room}
 use Rattle.trace.specs.Fields.{is_request}
 use Rattle.trace.specs.Writing.{request_bytes, part_bytes, requests_in, first_out}
-use Rattle.trace.specs.Stores.{Listed, sized, Measured, Judged, Roomy, Laid}
+use Rattle.trace.specs.Stores.{Listed, row_at, sized, Measured, Judged, Roomy, Laid}
 use Rattle.trace.proofs.Groups.{at_drop}
 use Rattle.trace.proofs.Laying.{Left, left_more}
 
@@ -24,10 +24,7 @@ listed_many (f ∷ fs) [] d h = absurd (omega (arith, h.sizes))
 listed_many (f ∷ fs) (s ∷ ss) [] h = absurd (omega (arith, h.costs))
 listed_many (f ∷ fs) (s ∷ ss) (d ∷ ds) h = ap suc (listed_many fs ss ds (record { sizes = omega (arith, h.sizes); costs = omega (arith, h.costs) }))
 
--- the request of an index, and the requests from an index on
-abbrev pub row_at : List ℕ → List ℕ → List ℕ → ℕ → Request
-row_at f s d i = record { file = get_or f i 0; size = get_or s i 0; cost = get_or d i 0 }
-
+-- the requests from an index on
 unfoldable pub rest_at : List ℕ → List ℕ → List ℕ → ℕ → List Request
 rest_at f s d i = requests_in (drop i f) (drop i s) (drop i d)
 

@@ -61,7 +61,7 @@ request_at_one part at bytes there r r' p q =
     let after : (k : ℕ) → AreBytes (drop k part) = (λ k i. rw (get_or-drop k part i 0) (bytes (k + i))) in
     let same : drop r.next part ≡ drop r'.next part = part_one _ _ _ _ _ _ (after r.next) (after r'.next) f.rest g.rest in
     let next : r.next ≡ r'.next = omega (arith, f.inside, g.inside, ap length same, length-drop r.next part, length-drop r'.next part) in
-    λ i. record { file = (f.file ∙ sym g.file) i; size = (f.size ∙ sym g.size) i; cost = (f.cost ∙ sym g.cost) i; next = next i }
+    λ i. record { request = record { file = (f.file ∙ sym g.file) i; size = (f.size ∙ sym g.size) i; cost = (f.cost ∙ sym g.cost) i }; next = next i }
 
 over_one : (l : List Request) (f s d f₁ s₁ d₁ f₂ s₂ d₂ : List ℕ) → Over l f s d f₁ s₁ d₁ → Over l f s d f₂ s₂ d₂ → (f₁ ≡ f₂) × (s₁ ≡ s₂) × (d₁ ≡ d₂)
 over_one l f s d f₁ s₁ d₁ f₂ s₂ d₂ p q = (p.in_files ∙ sym q.in_files, p.in_sizes ∙ sym q.in_sizes, p.in_costs ∙ sym q.in_costs)

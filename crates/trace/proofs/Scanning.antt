@@ -1,21 +1,16 @@
--- The walk of the checking pass over the fields of a request, and the answer at the head of the loop over the requests. Assumes nothing.
-use Prim.Native.Nat.{ℕ, ◌+◌, ◌<◌}
-use mathlib.Core.Path.{◌≡◌, refl, ap}
-use mathlib.Core.List.{List, ◌∷◌}
+-- What the checking pass has counted, and what a request more makes of it. Assumes nothing.
+use Prim.Native.Nat.{ℕ, ◌+◌, ◌≤◌}
+use mathlib.Core.Path.{◌≡◌, refl, ap, sym, ◌∙◌}
+use mathlib.Core.List.{List}
 use native.Mathlib.Omega.{arith}
 use native.Mathlib.Nat.{add-zero}
-use lib.ListN.{length, drop, get_or, drop_of_length-le}
-use Rattle.std.specs.Prelude.{Result, Ok, Err}
-use Rattle.amounts.specs.Limits.{is_size, is_cost}
+use lib.ListN.{length, drop, drop_of_length-le}
+use Rattle.std.specs.Prelude.{Ok, Err}
 use Rattle.amounts.specs.Requests.{Request}
 use Rattle.card.specs.declared.Refusal.{Refusal}
-use Rattle.card.specs.declared.Refusal.TheVariants.{Range}
-use Rattle.trace.specs.Fields.{Field, val, off, field, on_val, in_request, is_file}
 use Rattle.trace.specs.Reading.{Read, good, stop, push, read_of, rows}
-use Rattle.trace.specs.Steps.{counted}
-use Rattle.trace.proofs.Groups.{at_drop}
-use Rattle.trace.proofs.Enough.{read_nil, read_cons}
-use Rattle.trace.proofs.Walks.{Walk, At-field}
+use Rattle.trace.specs.Steps.{RequestVal, counted}
+use Rattle.trace.proofs.Enough.{read_nil}
 
 -- what an answer of the checking pass says of the requests
 pub counted_good : (x : Read) (m : ℕ) → counted 0 x ≡ Ok m → (x ≡ good (rows x)) × (length (rows x) ≡ m)
@@ -26,47 +21,16 @@ pub counted_stop : (x : Read) (r : Refusal) → counted 0 x ≡ Err r → x ≡ 
 counted_stop (good l) r e = let z : ◌≡◌ {A = ℕ} 0 1 = cc in absurd (omega arith)
 counted_stop (stop a) r e = cc
 
--- the fields are only counted, and after three of them the requests go on with one more counted
-unfoldable pub scanning : ℕ → ℕ → Walk ℕ (Result ℕ Refusal)
-scanning n c =
-    record {
-      inside = in_request c;
-      out = Range;
-      no = Err;
-      put = λ count f v. count;
-      last = 3;
-      next = λ count s. counted (count + 1) (read_of n c s);
-    }
-
-counted_on_val : (m : ℕ) (x : Field) (k : ℕ → List ℕ → Read) (k' : ℕ → List ℕ → Result ℕ Refusal) → ((v : ℕ) (s : List ℕ) → counted m (k v s) ≡ k' v s) → counted m (on_val stop x k) ≡ on_val Err x k'
-counted_on_val m (val v s) k k' h = h v s
-counted_on_val m (off a) k k' h = refl
-
 counted_push : (m : ℕ) (q : Request) (x : Read) → counted m (push q x) ≡ counted (m + 1) x
 counted_push m q (good l) = ap Ok (omega arith)
 counted_push m q (stop r) = refl
 
-module _ (part : List ℕ) (c : ℕ) where
-  unfoldable pub At-request : ℕ → ℕ → Result ℕ Refusal
-  At-request count at = counted count (read_of (length part) c (drop at part))
+module _ (part : List ℕ) (c : ℕ) (x : Read) (count at : ℕ) (e : counted 0 x ≡ counted count (read_of (length part) c (drop at part))) where
+  pub count_end : length part ≤ at → Ok count ≡ counted 0 x
+  count_end h = sym (e ∙ rw (drop_of_length-le part {i = at} h, read_nil (length part) c) (ap Ok (add-zero count)))
 
-  pub request_first : (from : ℕ) → counted 0 (read_of (length part) c (drop from part)) ≡ At-request 0 from
-  unfolding At-request
-  request_first from = refl
+  pub count_stop : (r : Refusal) → read_of (length part) c (drop at part) ≡ stop r → Err r ≡ counted 0 x
+  count_stop r s = sym (e ∙ ap (counted count) s)
 
-  pub request_end : (count at : ℕ) → at ≡ length part → At-request count at ≡ Ok count
-  unfolding At-request
-  request_end count at e = rw (drop_of_length-le part {i = at} (omega arith), read_nil (length part) c) (ap Ok (add-zero count))
-
-  pub request_field : (count at : ℕ) → at < length part → At-request count at ≡ At-field (scanning (length part) c) part count 0 at
-  unfolding At-request At-field scanning
-  request_field count at h =
-      rw (at_drop part at h, read_cons (length part) c (get_or part at 0) (drop (at + 1) part))
-      (counted_on_val count (field (length part) (is_file c) Range (get_or part at 0 ∷ drop (at + 1) part)) _ _
-      (λ file s₁. counted_on_val count (field (length part) is_size Range s₁) _ _
-      (λ size s₂. counted_on_val count (field (length part) is_cost Range s₂) _ _
-      (λ cost s₃. counted_push count _ (read_of (length part) c s₃)))))
-
-  pub field_request : (count at : ℕ) → (scanning (length part) c).next count (drop at part) ≡ At-request (count + 1) at
-  unfolding At-request scanning
-  field_request count at = refl
+  pub count_more : (next : ℕ) → RequestVal (read_of (length part) c (drop at part)) part c at next → counted 0 x ≡ counted (count + 1) (read_of (length part) c (drop next part))
+  count_more next p = e ∙ ap (counted count) p.judged ∙ counted_push count p.request (read_of (length part) c (drop next part))

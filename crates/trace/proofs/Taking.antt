@@ -118,7 +118,7 @@ module _ (part : List ℕ) (at : ℕ) (there : Requested part at) where
 
 -- three numbers make a request
 pub three : (part : List ℕ) (at : ℕ) (a z d : Number) → NumberAt part at a → NumberAt part a.next z → NumberAt part z.next d
-    → RequestAt part at (record { file = a.value % 65536; size = z.value % 4294967296; cost = d.value % 65536; next = d.next })
+    → RequestAt part at (record { request = record { file = a.value % 65536; size = z.value % 4294967296; cost = d.value % 65536 }; next = d.next })
 three part at a z d ha hz hd = record {
   first = λ n c q l hc e.
       let p = first_at part at n c l q e in

@@ -1,6 +1,6 @@
 -- A field of a trace: its form, then its range (document 01, "Numbers on the red card"). Assumes nothing.
-use Rattle.std.specs.Prelude.{ℕ, ◌-◌, List, Bool, false, length, ltb, eqb}
-use Rattle.amounts.specs.Limits.{pick, is_unit, is_policy, is_capacity, is_places, is_catalogue, is_size, is_cost}
+use Rattle.std.specs.Prelude.{ℕ, ◌-◌, List, Bool, false, length, ltb}
+use Rattle.amounts.specs.Limits.{pick, is_size, is_cost}
 use Rattle.amounts.specs.Requests.{Request}
 use Rattle.card.specs.declared.Refusal.{Refusal}
 use Rattle.card.specs.declared.Refusal.TheVariants.{Form}
@@ -32,14 +32,6 @@ on_val stop (off r) next = stop r
 -- document 01, "Numbers": file numbers run from 0 to catalogue - 1
 abbrev pub is_file : ℕ → ℕ → Bool
 is_file catalogue n = ltb n catalogue
-
--- document 01, "Trace bytes": the fields of a request by their place, file, size, cost
-abbrev pub in_request : ℕ → ℕ → ℕ → Bool
-in_request catalogue f n = pick (eqb f 0) (is_file catalogue n) (pick (eqb f 1) (is_size n) (is_cost n))
-
--- document 01, "Trace bytes": the settings by their place, unit, policy, capacity, places, catalogue
-abbrev pub in_settings : ℕ → ℕ → Bool
-in_settings f n = pick (eqb f 0) (is_unit n) (pick (eqb f 1) (is_policy n) (pick (eqb f 2) (is_capacity n) (pick (eqb f 3) (is_places n) (is_catalogue n))))
 
 -- document 01, "Numbers on the red card", 4: file, size and cost in range
 unfoldable pub is_request : ℕ → Request → Bool

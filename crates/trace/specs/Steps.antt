@@ -1,34 +1,15 @@
 -- What the functions below the reading entry points promise: the steps of their loops. Assumes nothing.
-use Rattle.std.specs.Prelude.{ℕ, ◌+◌, ◌*◌, ◌%◌, ◌^◌, ◌≤◌, ◌<◌, ◌≡◌, List, ◌∷◌, true, length, drop, ltb, eqb, Result, Ok, Err}
-use Rattle.amounts.specs.Limits.{pick, is_catalogue}
+use Rattle.std.specs.Prelude.{ℕ, ◌+◌, ◌≤◌, ◌<◌, ◌≡◌, List, ◌∷◌, Bool, true, length, drop, Result, Ok, Err, MatchResult}
+use Rattle.amounts.specs.Limits.{is_catalogue}
 use Rattle.amounts.specs.Requests.{Request}
-use Rattle.amounts.specs.declared.settings.Settings.{Settings}
 use Rattle.card.specs.declared.Refusal.{Refusal}
-use Rattle.trace.specs.Number.{num, decode}
-use Rattle.trace.specs.Reading.{Read, good, stop, read_of, roomy, rows}
+use Rattle.card.specs.declared.Refusal.TheVariants.{Form}
+use Rattle.trace.specs.Fields.{Field, val, off}
+use Rattle.trace.specs.Number.{num, bad, decode}
+use Rattle.trace.specs.Reading.{Read, good, stop, push, read_of, roomy, rows}
 use Rattle.trace.specs.Promise.{Over, room}
 use Rattle.trace.specs.declared.number.Number.{Number}
-use Rattle.trace.specs.declared.number.Group.{Group}
-use Rattle.trace.specs.declared.number.Next.{Next}
-use Rattle.trace.specs.declared.number.Next.TheVariants.{More, Last, Bad}
 use Rattle.trace.specs.declared.reader.Taken.{Taken}
-
--- document 01, "Trace bytes": a number in the course of being read, count groups of less than scale together
-pub record Fine (g : Group) : Type 0 where
-  pub below : g.value < g.scale
-  pub scaled : g.scale ≡ 128 ^ g.count
-  pub few : g.count < 6
-
--- its value with one group more
-abbrev pub with_group : Group → ℕ → ℕ
-with_group g b = g.value + (b % 128) * g.scale
-
--- what one group more makes of it: no seventh group, no needless last 0
-unfoldable pub taken : Group → ℕ → Next
-taken g b =
-    pick (ltb b 128)
-    (pick (eqb b 0) (pick (eqb g.count 0) (Last (with_group g b)) Bad) (Last (with_group g b)))
-    (pick (eqb g.count 5) Bad (More (record { value = with_group g b; scale = g.scale * 128; count = g.count + 1 })))
 
 -- there is a number at a place of the bytes
 pub record Numbered (part : List ℕ) (at : ℕ) : Type 0 where
@@ -41,11 +22,40 @@ pub record NumberAt (part : List ℕ) (at : ℕ) (r : Number) : Type 0 where
   pub spelt : decode (drop at part) ≡ num r.value (drop r.next part)
   pub inside : r.next ≤ length part
 
+-- r is the number at a place of the bytes; where there is none, the refusal with that place
+abbrev pub NumberRead : List ℕ → ℕ → Result Number Refusal → Type 0
+NumberRead part at r = MatchResult r (NumberAt part at) (λ e. (e ≡ Form at) × (decode (drop at part) ≡ bad))
+
+-- a test that the code is given, of which P tells the answers, is this one
+abbrev pub Tells : (ℕ → Bool → Type 0) → (ℕ → Bool) → Type 0
+Tells P inside = (v : ℕ) (t : Bool) → P v t → t ≡ inside v
+
+-- x is the field whose value is n, and n stands before the end of the bytes
+pub record FieldVal (x : Field) (part : List ℕ) (at : ℕ) (n : Number) : Type 0 where
+  pub judged : x ≡ val n.value (drop n.next part)
+  pub further : at < n.next
+  pub inside : n.next ≤ length part
+
+-- r is the field x, which stands at a place of the bytes
+abbrev pub FieldRead : Field → List ℕ → ℕ → Result Number Refusal → Type 0
+FieldRead x part at r = MatchResult r (FieldVal x part at) (λ e. x ≡ off e)
+
+-- there is a request before the place r, and x is what that request and those from r on read as
+pub record RequestVal (x : Read) (part : List ℕ) (catalogue at r : ℕ) : Type 0 where
+  pub request : Request
+  pub judged : x ≡ push request (read_of (length part) catalogue (drop r part))
+  pub further : at < r
+  pub inside : r ≤ length part
+
+-- r is the place after the request at a place, or the refusal with which x stops there
+abbrev pub RequestRead : Read → List ℕ → ℕ → ℕ → Result ℕ Refusal → Type 0
+RequestRead x part catalogue at r = MatchResult r (RequestVal x part catalogue at) (λ e. x ≡ stop e)
+
 -- r is the request q, and l are the requests after it
 pub record First (part : List ℕ) (n catalogue : ℕ) (r : Taken) (q : Request) (l : List Request) : Type 0 where
-  pub file : r.file ≡ q.file
-  pub size : r.size ≡ q.size
-  pub cost : r.cost ≡ q.cost
+  pub file : r.request.file ≡ q.file
+  pub size : r.request.size ≡ q.size
+  pub cost : r.request.cost ≡ q.cost
   pub inside : r.next ≤ length part
   pub rest : read_of n catalogue (drop r.next part) ≡ good l
 
@@ -80,16 +90,3 @@ pub record Ready (part : List ℕ) (catalogue from count : ℕ) (f s d : List �
 pub record ReadFrom (x : Read) (f s d : List ℕ) (r : Result ℕ Refusal) (f' s' d' : List ℕ) : Type 0 where
   pub answer : r ≡ counted 0 (roomy (room f s d) x)
   pub lists : Over (rows (roomy (room f s d) x)) f s d f' s' d'
-
--- settings before any of them is read
-abbrev pub unset_settings : Settings
-unset_settings = record { unit = record { 0 = 0 }; policy = record { 0 = 0 }; capacity = record { 0 = 0 }; places = record { 0 = 0 }; catalogue = record { 0 = 0 } }
-
--- the settings with one of them set
-unfoldable pub with_setting : Settings → ℕ → ℕ → Settings
-with_setting s f n =
-    pick (eqb f 0) (record { unit = record { 0 = n }; policy = s.policy; capacity = s.capacity; places = s.places; catalogue = s.catalogue })
-    (pick (eqb f 1) (record { unit = s.unit; policy = record { 0 = n }; capacity = s.capacity; places = s.places; catalogue = s.catalogue })
-    (pick (eqb f 2) (record { unit = s.unit; policy = s.policy; capacity = record { 0 = n }; places = s.places; catalogue = s.catalogue })
-    (pick (eqb f 3) (record { unit = s.unit; policy = s.policy; capacity = s.capacity; places = record { 0 = n }; catalogue = s.catalogue })
-    (record { unit = s.unit; policy = s.policy; capacity = s.capacity; places = s.places; catalogue = record { 0 = n } }))))

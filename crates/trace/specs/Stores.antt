@@ -1,5 +1,5 @@
 -- What the functions below the writing entry points promise: the steps of their loops. Assumes nothing.
-use Rattle.std.specs.Prelude.{ℕ, ◌+◌, ◌≤◌, ◌≡◌, List, ◌++◌, length, Result, Ok, Err}
+use Rattle.std.specs.Prelude.{ℕ, ◌+◌, ◌≤◌, ◌≡◌, List, ◌++◌, length, slice_index, Result, Ok, Err}
 use Rattle.std.proofs.lemmas.List.Edits.{sets}
 use Rattle.amounts.specs.Requests.{Request}
 use Rattle.card.specs.declared.Refusal.{Refusal}
@@ -9,6 +9,10 @@ use Rattle.trace.specs.Writing.{part_bytes, Put, bytes, stop, in_room, listed}
 pub record Listed (f s d : List ℕ) : Type 0 where
   pub sizes : length f ≤ length s
   pub costs : length f ≤ length d
+
+-- the request of an index
+abbrev pub row_at : List ℕ → List ℕ → List ℕ → ℕ → Request
+row_at f s d i = record { file = slice_index f i; size = slice_index s i; cost = slice_index d i }
 
 -- how many bytes there are to write, or the refusal
 abbrev pub sized : Put → Result ℕ Refusal

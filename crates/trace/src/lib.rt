@@ -4,6 +4,8 @@
 mod number;
 mod opening;
 mod reader;
+mod request;
 
 pub use opening::{read_file, settings_at};
-pub use reader::{Taken, in_request, read_part, request_at, scan};
+pub use reader::{Taken, read_part, request_at, scan};
+pub use request::{Request, is_file};

