@@ -1,5 +1,5 @@
 // The admission of a newcomer, by either policy.
-ghost use Rattle.tables.specs.Tables.{tables};
+ghost use Rattle.tables.specs.Lent.{tables_of, Same};
 ghost use Rattle.admitting.specs.Deciding.{asked, Met};
 ghost use Rattle.admitting.specs.Admitting.{Enterable, enters, Admissible, admits};
 
@@ -9,7 +9,7 @@ use counting::counted;
 use method::{Outcome, Pass};
 use newcomer::{admitted, limit, newcomer};
 use shelving::{Room, drop_behind, keep, make_room, put_back, tell};
-use tables::Tally;
+use tables::{Records, Tally};
 
 // The newcomer enters where room was made: what was set aside is evicted in order, and it takes a free place.
 fn enter(
@@ -18,11 +18,7 @@ fn enter(
     z: Bytes,
     w: Cost,
     room: Room,
-    place: &mut [u16],
-    file: &mut [u16],
-    size: &mut [u32],
-    cost: &mut [u16],
-    freq: &mut [u32],
+    r: &mut Records,
     key: &mut [u64],
     stamp: &mut [u64],
     queue: &mut [u16],
@@ -31,22 +27,19 @@ fn enter(
     events: &mut [u32],
     at: usize,
 ) -> Untold
-    requires { Enterable a (asked f z.0 w.0) room (tables place.old file.old size.old cost.old freq.old key.old stamp.old queue.old) entry.old free.old events.old at }
-    ensures { Met a (tables place.old file.old size.old cost.old freq.old key.old stamp.old queue.old) events.old at (enters a (asked f z.0 w.0) room (tables place.old file.old size.old cost.old freq.old key.old stamp.old queue.old)) result (tables place.new file.new size.new cost.new freq.new key.new stamp.new queue.new) entry.new free.new events.new }
+    requires { Enterable a (asked f z.0 w.0) room (tables_of r.old key.old stamp.old queue.old) entry.old free.old events.old at }
+    ensures same { Same r.old r.new }
+    ensures met { Met a (tables_of r.old key.old stamp.old queue.old) events.old at (enters a (asked f z.0 w.0) room (tables_of r.old key.old stamp.old queue.old)) result (tables_of r.new key.new stamp.new queue.new) entry.new free.new events.new }
 {
     let n = a.files_kept as usize;
     let left = room.left;
     let due = at + (n - left);
-    tell(n, left, file, queue, events, at);
-    drop_behind(
-        a.settings, n, left, place, file, size, cost, freq, key, stamp, queue, free,
-    );
+    tell(r, n, left, queue, events, at);
+    drop_behind(r, key, stamp, queue, free, a.settings, n, left);
     let top = a.settings.places.count() - left - 1;
     let p = usize::from(free[top]);
     let k = newcomer(a, z, w, room);
-    keep(
-        left, p, f, k, place, file, size, cost, freq, key, stamp, queue, entry,
-    );
+    keep(r, key, stamp, queue, entry, left, p, f, k);
     Untold {
         outcome: Outcome::Admitted,
         tally: admitted(a, z, w, room),
@@ -60,11 +53,7 @@ pub fn admit(
     f: usize,
     z: Bytes,
     w: Cost,
-    place: &mut [u16],
-    file: &mut [u16],
-    size: &mut [u32],
-    cost: &mut [u16],
-    freq: &mut [u32],
+    r: &mut Records,
     key: &mut [u64],
     stamp: &mut [u64],
     queue: &mut [u16],
@@ -73,12 +62,13 @@ pub fn admit(
     events: &mut [u32],
     at: usize,
 ) -> Untold
-    requires { Admissible a (asked f z.0 w.0) (tables place.old file.old size.old cost.old freq.old key.old stamp.old queue.old) entry.old free.old events.old at }
-    ensures { Met a (tables place.old file.old size.old cost.old freq.old key.old stamp.old queue.old) events.old at (admits a (asked f z.0 w.0) (tables place.old file.old size.old cost.old freq.old key.old stamp.old queue.old)) result (tables place.new file.new size.new cost.new freq.new key.new stamp.new queue.new) entry.new free.new events.new }
+    requires { Admissible a (asked f z.0 w.0) (tables_of r.old key.old stamp.old queue.old) entry.old free.old events.old at }
+    ensures same { Same r.old r.new }
+    ensures met { Met a (tables_of r.old key.old stamp.old queue.old) events.old at (admits a (asked f z.0 w.0) (tables_of r.old key.old stamp.old queue.old)) result (tables_of r.new key.new stamp.new queue.new) entry.new free.new events.new }
 {
     let k = a.inflation + product(1, z, w);
     let most = limit(a.settings.policy, k);
-    let room = make_room(a, z, most, size, key, stamp, queue, entry);
+    let room = make_room(r, a, z, most, key, stamp, queue, entry);
     if room.low {
         let n = a.files_kept as usize;
         let left = room.left;
@@ -91,6 +81,6 @@ pub fn admit(
         };
     }
     enter(
-        a, f, z, w, room, place, file, size, cost, freq, key, stamp, queue, entry, free, events, at,
+        a, f, z, w, room, r, key, stamp, queue, entry, free, events, at,
     )
 }

@@ -1,11 +1,11 @@
 // A copy of another size than the one asked for is stale: it goes before the request goes on.
-ghost use Rattle.tables.specs.Tables.{tables};
+ghost use Rattle.tables.specs.Lent.{tables_of, Same};
 ghost use Rattle.dropping.specs.Cleaning.{Cleanable, old_in, Cleans};
 
 use crate::copy::drop_copy;
 use amounts::{Bytes, Places};
 use method::{Kind, event};
-use tables::Tally;
+use tables::{Records, Tally};
 
 // The tally once no stale copy of the file is kept, and where the next event is due.
 #[derive(Clone, Copy)]
@@ -19,11 +19,7 @@ pub fn drop_stale(
     a: Tally,
     f: usize,
     z: Bytes,
-    place: &mut [u16],
-    file: &mut [u16],
-    size: &mut [u32],
-    cost: &mut [u16],
-    freq: &mut [u32],
+    r: &mut Records,
     key: &mut [u64],
     stamp: &mut [u64],
     queue: &mut [u16],
@@ -32,21 +28,20 @@ pub fn drop_stale(
     events: &mut [u32],
     at: usize,
 ) -> Cleaned
-    requires { Cleanable a f (tables place.old file.old size.old cost.old freq.old key.old stamp.old queue.old) entry.old free.old events.old at }
-    ensures { Cleans a f (old_in a f z.0 (tables place.old file.old size.old cost.old freq.old key.old stamp.old queue.old)) (tables place.old file.old size.old cost.old freq.old key.old stamp.old queue.old) events.old at result (tables place.new file.new size.new cost.new freq.new key.new stamp.new queue.new) entry.new free.new events.new }
+    requires { Cleanable a f (tables_of r.old key.old stamp.old queue.old) entry.old free.old events.old at }
+    ensures same { Same r.old r.new }
+    ensures cleaned { Cleans a f (old_in a f z.0 (tables_of r.old key.old stamp.old queue.old)) (tables_of r.old key.old stamp.old queue.old) events.old at result (tables_of r.new key.new stamp.new queue.new) entry.new free.new events.new }
 {
-    let home = place[f];
+    let home = r.place[f];
     if home == Places::NONE {
         return Cleaned { tally: a, due: at };
     }
     let p = usize::from(home);
-    if u64::from(size[p]) == z.0 {
+    if u64::from(r.size[p]) == z.0 {
         return Cleaned { tally: a, due: at };
     }
     events[at] = event(u32::from(Kind::Stale), f);
     let due = at + 1;
-    let tally = drop_copy(
-        a, p, place, file, size, cost, freq, key, stamp, queue, entry, free,
-    );
+    let tally = drop_copy(a, p, r, key, stamp, queue, entry, free);
     Cleaned { tally, due }
 }

@@ -148,7 +148,7 @@ module _ (a : Tally) (part : List ℕ) (count : ℕ) (t₀ : Tables) (told₀ : 
             ranged = (part_ranged (length part) a.settings.catalogue.0 (q ∷ l) (drop at part) g).0;
           }
 
-  asked_is : asked y.file y.size y.cost ≡ turn.q
+  asked_is : asked y.request.file y.request.size y.request.cost ≡ turn.q
   asked_is = let f = turn.first in λ i. record { file = f.file i; size = f.size i; cost = f.cost i }
 
   length_rest : length w.rest ≡ suc (length turn.l)
@@ -164,14 +164,14 @@ module _ (a : Tally) (part : List ℕ) (count : ℕ) (t₀ : Tables) (told₀ : 
       }
 
   -- its size is in range
-  pub walk_size : is_size y.size ≡ true
+  pub walk_size : is_size y.request.size ≡ true
   walk_size = subst (λ (n : ℕ). is_size n ≡ true) (sym turn.first.size) turn.ranged.size
 
-  pub walk_servable : (f sz co : ℕ) → f ≡ y.file → sz ≡ y.size → co ≡ y.cost → Servable b (asked f sz co) t entry free told e
+  pub walk_servable : (f sz co : ℕ) → f ≡ y.request.file → sz ≡ y.request.size → co ≡ y.request.cost → Servable b (asked f sz co) t entry free told e
   walk_servable f sz co ef es ec =
       subst (λ (x : Request). Servable b x t entry free told e) (sym ((λ i. asked (ef i) (es i) (ec i)) ∙ asked_is)) servable_q
 
-  pub walk_more : (f sz co : ℕ) → f ≡ y.file → sz ≡ y.size → co ≡ y.cost → (r : Step) (u : Tables) (entry' free' told' : List ℕ) → Stepped b (asked f sz co) t told e r u entry' free' told'
+  pub walk_more : (f sz co : ℕ) → f ≡ y.request.file → sz ≡ y.request.size → co ≡ y.request.cost → (r : Step) (u : Tables) (entry' free' told' : List ℕ) → Stepped b (asked f sz co) t told e r u entry' free' told'
       → Walk a part count t₀ told₀ u entry' free' told' r.tally y.next r.events (i + 1)
   walk_more f sz co ef es ec r u entry' free' told' s₀ =
       let q : Request = turn.q in

@@ -1,13 +1,13 @@
 // A part of a trace that was found good: nothing can fail while it is served.
 #![tactic(auto)]
 
-ghost use Rattle.tables.specs.Tables.{tables};
+ghost use Rattle.tables.specs.Lent.{tables_of, Same};
 ghost use Rattle.refusing.specs.Judging.{requests_in};
 ghost use Rattle.parts.specs.Parts.{Ready, PartServed};
 
 use amounts::{Bytes, Cost};
 use serving::serve;
-use tables::Tally;
+use tables::{Records, Tally};
 
 // The tally after a part, and how many events it wrote.
 #[derive(Clone, Copy)]
@@ -21,11 +21,7 @@ pub fn serve_part(
     a: Tally,
     part: &[u8],
     count: usize,
-    place: &mut [u16],
-    file: &mut [u16],
-    size: &mut [u32],
-    cost: &mut [u16],
-    freq: &mut [u32],
+    r: &mut Records,
     key: &mut [u64],
     stamp: &mut [u64],
     queue: &mut [u16],
@@ -33,14 +29,16 @@ pub fn serve_part(
     free: &mut [u16],
     events: &mut [u32],
 ) -> Ended
-    requires { Ready a part.now count (tables place.old file.old size.old cost.old freq.old key.old stamp.old queue.old) entry.old free.old events.old }
-    ensures { PartServed (requests_in a part.now) a (tables place.old file.old size.old cost.old freq.old key.old stamp.old queue.old) events.old result (tables place.new file.new size.new cost.new freq.new key.new stamp.new queue.new) entry.new free.new events.new }
+    requires { Ready a part.now count (tables_of r.old key.old stamp.old queue.old) entry.old free.old events.old }
+    ensures same { Same r.old r.new }
+    ensures served { PartServed (requests_in a part.now) a (tables_of r.old key.old stamp.old queue.old) events.old result (tables_of r.new key.new stamp.new queue.new) entry.new free.new events.new }
 {
     let mut b = a;
     let mut at: usize = 0;
     let mut told: usize = 0;
     for _ in 0..count {
-        let q = trace::request_at(part, at);
+        let taken = trace::request_at(part, at);
+        let q = taken.request;
         let f = usize::from(q.file);
         let z = Bytes::size(u64::from(q.size));
         let w = Cost::asked(u64::from(q.cost));
@@ -49,11 +47,7 @@ pub fn serve_part(
             f,
             z,
             w,
-            place,
-            file,
-            size,
-            cost,
-            freq,
+            r,
             key,
             stamp,
             queue,
@@ -65,7 +59,7 @@ pub fn serve_part(
         let tally = step.tally;
         b = tally;
         told = step.events;
-        at = q.next;
+        at = taken.next;
     }
     Ended {
         tally: b,

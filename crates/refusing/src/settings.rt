@@ -1,26 +1,16 @@
 // What a call is refused for before its tables are looked at: the settings, the lengths and the unit.
 ghost use Rattle.std.specs.Prelude.{◌≡◌};
-ghost use Rattle.tables.specs.Tables.{long_enough};
+ghost use Rattle.tables.specs.Lent.{shown};
+ghost use Rattle.tables.specs.Start.{long};
 ghost use Rattle.refusing.specs.Judging.{settled};
 
 use amounts::Unit;
 use card::Refusal;
-use tables::{Tally, long_enough};
+use tables::{Tables, Tally};
 
 // The settings, the lengths and the unit: 1, 2 or 8.
-pub fn judge_settings(
-    unit: Unit,
-    a: Tally,
-    place: usize,
-    file: usize,
-    size: usize,
-    cost: usize,
-    freq: usize,
-    key: usize,
-    stamp: usize,
-    queue: usize,
-) -> Result<(), Refusal>
-    ensures { result ≡ settled unit.0 a (long_enough a.settings.places.0 a.settings.catalogue.0 place file size cost freq key stamp queue) }
+pub fn judge_settings(unit: Unit, a: Tally, t: Tables) -> Result<(), Refusal>
+    ensures { result ≡ settled unit.0 a (long a.settings (shown t.entry)) }
 {
     if !unit.in_range() {
         return Err(Refusal::Setting);
@@ -28,11 +18,7 @@ pub fn judge_settings(
     if !a.settings.in_range() {
         return Err(Refusal::Setting);
     }
-    let places = a.settings.places.count();
-    let catalogue = a.settings.catalogue.count();
-    if !long_enough(
-        places, catalogue, place, file, size, cost, freq, key, stamp, queue,
-    ) {
+    if !t.are_long(a.settings) {
         return Err(Refusal::Short);
     }
     if unit == a.settings.unit {

@@ -8,7 +8,7 @@ use card::Refusal;
 use judge::is_sound;
 use parts::{Ended, serve_part};
 use refusing::{judge_settings, room_for};
-use tables::Tally;
+use tables::{Records, Tables, Tally};
 
 // Carries on over tables whose settings and lengths are in order.
 fn carry_sound(
@@ -29,15 +29,18 @@ fn carry_sound(
 {
     let mut entry = [0u16; Places::MOST as usize];
     let mut free = [0u16; Places::MOST as usize];
-    if !is_sound(
-        a, place, file, size, cost, freq, key, stamp, queue, &mut entry, &mut free,
-    ) {
+    let t = Tables {
+        place, file, size, cost, freq, key, stamp, queue
+    };
+    if !is_sound(a, t, &mut entry, &mut free) {
         return Err(Refusal::Unsound);
     }
     let count = room_for(a, part, events.len())?;
+    let mut r = Records {
+        place, file, size, cost, freq
+    };
     Ok(serve_part(
-        a, part, count, place, file, size, cost, freq, key, stamp, queue, &mut entry, &mut free,
-        events,
+        a, part, count, &mut r, key, stamp, queue, &mut entry, &mut free, events,
     ))
 }
 
@@ -58,18 +61,10 @@ pub fn carry_on(
 ) -> Result<Ended, Refusal>
     ensures { Carries a (tables place.old file.old size.old cost.old freq.old key.old stamp.old queue.old) events.old (carried a result) (tables place.new file.new size.new cost.new freq.new key.new stamp.new queue.new) events.new unit.0 part.now }
 {
-    judge_settings(
-        unit,
-        a,
-        place.len(),
-        file.len(),
-        size.len(),
-        cost.len(),
-        freq.len(),
-        key.len(),
-        stamp.len(),
-        queue.len(),
-    )?;
+    let t = Tables {
+        place, file, size, cost, freq, key, stamp, queue
+    };
+    judge_settings(unit, a, t)?;
     carry_sound(
         a, place, file, size, cost, freq, key, stamp, queue, part, events,
     )

@@ -140,10 +140,11 @@ module _ {a : Tally} {q : Request} {t : Tables} {entry free events : List ℕ} {
           past = ap (beyond_of s) lent ∙ anew.past (drop_same t.queue queue' n s.places.0 r.apart.long l.few r.apart.past);
         })
 
-  pub strikes_at : {k : ℕ} → k ≡ p → {freq' key' stamp' queue' entry' : List ℕ} {b : Tally}
+  pub strikes_at : {k : ℕ} → k ≡ p → {place' file' size' cost' freq' key' stamp' queue' entry' : List ℕ} {b : Tally}
+      → place' ≡ t.place → file' ≡ t.file → size' ≡ t.size → cost' ≡ t.cost
       → HitDone a k t.size t.cost t.freq t.key t.stamp t.queue entry freq' key' stamp' queue' entry' b
-      → Met a t events at (meets a q t) (record { outcome = Hit; tally = b; due = at }) (tables t.place t.file t.size t.cost freq' key' stamp' queue') entry' free events
-  strikes_at e d = strikes (rw e at d)
+      → Met a t events at (meets a q t) (record { outcome = Hit; tally = b; due = at }) (tables place' file' size' cost' freq' key' stamp' queue') entry' free events
+  strikes_at e i j k l d = rw (i, j, k, l) (strikes (rw e at d))
 
 -- ---- a file that is not kept, by the test of its size
 

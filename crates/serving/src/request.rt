@@ -1,5 +1,5 @@
 // One request: the lift that may be due and a stale copy go first, then it is decided by the file number alone and told in the event list.
-ghost use Rattle.tables.specs.Tables.{tables};
+ghost use Rattle.tables.specs.Lent.{tables_of, Same};
 ghost use Rattle.admitting.specs.Deciding.{asked, Meetable, meets, Met};
 ghost use Rattle.serving.specs.Serving.{Servable, Stepped};
 
@@ -11,7 +11,7 @@ use dropping::drop_stale;
 use hitting::hit;
 use lifting::lift;
 use method::{Outcome, Pass, event};
-use tables::Tally;
+use tables::{Records, Tally};
 
 // A hit, a pass or an admission, w being the cost in force: of the events only the evictions are written.
 fn meet(
@@ -19,11 +19,7 @@ fn meet(
     f: usize,
     z: Bytes,
     w: Cost,
-    place: &mut [u16],
-    file: &mut [u16],
-    size: &mut [u32],
-    cost: &mut [u16],
-    freq: &mut [u32],
+    r: &mut Records,
     key: &mut [u64],
     stamp: &mut [u64],
     queue: &mut [u16],
@@ -32,14 +28,15 @@ fn meet(
     events: &mut [u32],
     at: usize,
 ) -> Untold
-    requires { Meetable a (asked f z.0 w.0) (tables place.old file.old size.old cost.old freq.old key.old stamp.old queue.old) entry.old free.old events.old at }
-    ensures { Met a (tables place.old file.old size.old cost.old freq.old key.old stamp.old queue.old) events.old at (meets a (asked f z.0 w.0) (tables place.old file.old size.old cost.old freq.old key.old stamp.old queue.old)) result (tables place.new file.new size.new cost.new freq.new key.new stamp.new queue.new) entry.new free.new events.new }
+    requires { Meetable a (asked f z.0 w.0) (tables_of r.old key.old stamp.old queue.old) entry.old free.old events.old at }
+    ensures same { Same r.old r.new }
+    ensures met { Met a (tables_of r.old key.old stamp.old queue.old) events.old at (meets a (asked f z.0 w.0) (tables_of r.old key.old stamp.old queue.old)) result (tables_of r.new key.new stamp.new queue.new) entry.new free.new events.new }
 {
-    let home = place[f];
+    let home = r.place[f];
     if home != Places::NONE {
         return Untold {
             outcome: Outcome::Hit,
-            tally: hit(a, usize::from(home), size, cost, freq, key, stamp, queue, entry),
+            tally: hit(a, usize::from(home), r, key, stamp, queue, entry),
             due: at,
         };
     }
@@ -52,7 +49,7 @@ fn meet(
         };
     }
     admit(
-        a, f, z, w, place, file, size, cost, freq, key, stamp, queue, entry, free, events, at,
+        a, f, z, w, r, key, stamp, queue, entry, free, events, at,
     )
 }
 
@@ -62,11 +59,7 @@ pub fn serve(
     f: usize,
     z: Bytes,
     w: Cost,
-    place: &mut [u16],
-    file: &mut [u16],
-    size: &mut [u32],
-    cost: &mut [u16],
-    freq: &mut [u32],
+    r: &mut Records,
     key: &mut [u64],
     stamp: &mut [u64],
     queue: &mut [u16],
@@ -75,23 +68,20 @@ pub fn serve(
     events: &mut [u32],
     at: usize,
 ) -> Step
-    requires { Servable a (asked f z.0 w.0) (tables place.old file.old size.old cost.old freq.old key.old stamp.old queue.old) entry.old free.old events.old at }
-    ensures { Stepped a (asked f z.0 w.0) (tables place.old file.old size.old cost.old freq.old key.old stamp.old queue.old) events.old at result (tables place.new file.new size.new cost.new freq.new key.new stamp.new queue.new) entry.new free.new events.new }
+    requires { Servable a (asked f z.0 w.0) (tables_of r.old key.old stamp.old queue.old) entry.old free.old events.old at }
+    ensures same { Same r.old r.new }
+    ensures stepped { Stepped a (asked f z.0 w.0) (tables_of r.old key.old stamp.old queue.old) events.old at result (tables_of r.new key.new stamp.new queue.new) entry.new free.new events.new }
 {
     let lifted = lift(a, queue, key);
     let cleaned = drop_stale(
-        lifted, f, z, place, file, size, cost, freq, key, stamp, queue, entry, free, events, at,
+        lifted, f, z, r, key, stamp, queue, entry, free, events, at,
     );
     let met = meet(
         cleaned.tally,
         f,
         z,
         w.in_force(z),
-        place,
-        file,
-        size,
-        cost,
-        freq,
+        r,
         key,
         stamp,
         queue,

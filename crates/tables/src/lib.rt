@@ -1,13 +1,11 @@
 // The lent tables and the tally of a run: what they stand for, and a fresh start.
 #![tactic(auto)]
 
-mod length;
 mod records;
 mod shown;
 mod start;
 mod tally;
 
-pub use length::long_enough;
 pub use records::Records;
 pub use shown::Tables;
 pub use start::fresh;

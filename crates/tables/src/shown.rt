@@ -1,7 +1,9 @@
 // The lent tables to be looked at, as one value.
 ghost use Rattle.std.specs.Prelude.{◌≡◌};
-ghost use Rattle.tables.specs.Tables.{is_long};
+ghost use Rattle.tables.specs.Start.{long};
 ghost use Rattle.tables.specs.Lent.{shown};
+
+use amounts::Settings;
 
 // Per file number its place; per place the file kept there and its record; the queue of occupied places.
 #[derive(Clone, Copy)]
@@ -19,10 +21,11 @@ pub struct Tables<'a> {
 impl Tables<'_> {
     // Whether each table has its needed length: the catalogue for the table by file number, the places for every other.
     #[tactic(auto, unfolding(crate::specs::Tables::long_enough))]
-    pub fn are_long(self, places: usize, catalogue: usize) -> bool
-        ensures { result ≡ is_long places catalogue (shown self.entry) }
+    pub fn are_long(self, settings: Settings) -> bool
+        ensures { result ≡ long settings (shown self.entry) }
     {
-        catalogue <= self.place.len()
+        let places = settings.places.count();
+        settings.catalogue.count() <= self.place.len()
             && places <= self.file.len()
             && places <= self.size.len()
             && places <= self.cost.len()

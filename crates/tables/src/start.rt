@@ -3,7 +3,7 @@ ghost use Rattle.std.specs.Prelude.{◌≡◌};
 ghost use Rattle.tables.specs.Tables.{tables, Long, cleared};
 ghost use Rattle.tables.specs.Start.{Freshly};
 
-use crate::length::long_enough;
+use crate::shown::Tables;
 use crate::tally::Tally;
 use amounts::{Places, Settings};
 use card::Refusal;
@@ -51,22 +51,14 @@ pub fn fresh(
     if !settings.in_range() {
         return Err(Refusal::Setting);
     }
-    let places = settings.places.count();
-    let catalogue = settings.catalogue.count();
-    if !long_enough(
-        places,
-        catalogue,
-        place.len(),
-        file.len(),
-        size.len(),
-        cost.len(),
-        freq.len(),
-        key.len(),
-        stamp.len(),
-        queue.len(),
-    ) {
+    let t = Tables {
+        place, file, size, cost, freq, key, stamp, queue
+    };
+    if !t.are_long(settings) {
         return Err(Refusal::Short);
     }
+    let places = settings.places.count();
+    let catalogue = settings.catalogue.count();
     clear_all(
         places, catalogue, place, file, size, cost, freq, key, stamp, queue,
     );

@@ -25,8 +25,8 @@ put_back-requires c =
     let most = limit_is c.args.a c.args.z.0 c.args.w.0 c.limit-most.ensures c.add-k.ensures c.product.ensures in
     apiece c.requires most c.make_room-room.ensures c.if-room.true
 
-pub returns-then-room : goal.returns-then-room
-returns-then-room c =
+pub returns-then-room-clause-met : goal.returns-then-room-clause-met
+returns-then-room-clause-met c =
     let most = limit_is c.args.a c.args.z.0 c.args.w.0 c.limit-most.ensures c.add-k.ensures c.product.ensures in
     lows c.requires most c.make_room-room.ensures c.if-room.true c.put_back.ensures c.counted.ensures
 
@@ -35,7 +35,7 @@ enter-requires c =
     let most = limit_is c.args.a c.args.z.0 c.args.w.0 c.limit-most.ensures c.add-k.ensures c.product.ensures in
     enterable c.requires most c.make_room-room.ensures c.if-room.false
 
-pub returns : goal.returns
-returns c =
+pub returns-clause-met : goal.returns-clause-met
+returns-clause-met c =
     let most = limit_is c.args.a c.args.z.0 c.args.w.0 c.limit-most.ensures c.add-k.ensures c.product.ensures in
-    admitted c.requires most c.make_room-room.ensures c.if-room.false c.enter.ensures
+    admitted c.requires most c.make_room-room.ensures c.if-room.false c.enter.ensures.met

@@ -9,10 +9,10 @@ drop_behind-requires c = let h = c.requires in live_droppable h.live _ h.stack.l
 pub keep-requires : goal.keep-requires
 keep-requires c =
     let h = c.requires in
-    keepable h c.drop_behind.ensures c.count.ensures c.from-p.ensures c.newcomer-k.ensures
+    keepable h c.drop_behind.ensures.dropped c.count.ensures c.from-p.ensures c.newcomer-k.ensures
 
-pub returns : goal.returns
-returns c =
+pub returns-clause-met : goal.returns-clause-met
+returns-clause-met c =
     let h = c.requires in
-    entered h c.drop_behind.ensures c.count.ensures c.from-p.ensures c.newcomer-k.ensures _
-    c.keep.ensures c.tell.ensures c.admitted.ensures
+    entered h c.drop_behind.ensures.dropped c.count.ensures c.from-p.ensures c.newcomer-k.ensures _
+    c.keep.ensures.kept c.tell.ensures c.admitted.ensures

@@ -1,10 +1,9 @@
 -- `refusing::settings::judge_settings` meets its contract. Assumes nothing.
-use mathlib.Core.Path.{◌≡◌, ◌∙◌}
+use mathlib.Core.Path.{◌≡◌}
 use mathlib.Core.Bool.{true}
 use Rattle.amounts.specs.Limits.{is_unit}
 use Rattle.amounts.specs.Settings.{in_range}
 use Rattle.amounts.proofs.Tests.{told}
-use Rattle.tables.specs.Tables.{long_enough}
 use Rattle.refusing.specs.Judging.{settled}
 use Rattle.refusing.proofs.settings.judge_settings.Goals as goal
 
@@ -18,32 +17,23 @@ returns-then-not-in_range-2 c =
     let unit_passes : is_unit c.args.unit.0 ≡ true = told c.in_range.ensures c.if-not-in_range.false in
     simp (unit_passes, told c.in_range-2.ensures c.if-not-in_range-2.true)
 
-pub returns-then-not-long_enough : goal.returns-then-not-long_enough
+pub returns-then-not-are_long : goal.returns-then-not-are_long
 unfolding settled
-returns-then-not-long_enough c =
+returns-then-not-are_long c =
     let unit_passes : is_unit c.args.unit.0 ≡ true = told c.in_range.ensures c.if-not-in_range.false in
     let range_passes : in_range c.args.a.settings ≡ true = told c.in_range-2.ensures c.if-not-in_range-2.false in
-    let lengths : let x = c.args in c.long_enough.result ≡ long_enough x.a.settings.places.0 x.a.settings.catalogue.0 x.place x.file x.size x.cost x.freq x.key x.stamp x.queue = let x = c.args in
-    c.long_enough.ensures
-    ∙ (λ i. long_enough (c.count-places.ensures i) (c.count-catalogue.ensures i) x.place x.file x.size x.cost x.freq x.key x.stamp x.queue) in
-    simp (unit_passes, range_passes, told lengths c.if-not-long_enough.true)
+    simp (unit_passes, range_passes, told c.are_long.ensures c.if-not-are_long.true)
 
 pub returns-then-eq : goal.returns-then-eq
 unfolding settled
 returns-then-eq c =
     let unit_passes : is_unit c.args.unit.0 ≡ true = told c.in_range.ensures c.if-not-in_range.false in
     let range_passes : in_range c.args.a.settings ≡ true = told c.in_range-2.ensures c.if-not-in_range-2.false in
-    let lengths : let x = c.args in c.long_enough.result ≡ long_enough x.a.settings.places.0 x.a.settings.catalogue.0 x.place x.file x.size x.cost x.freq x.key x.stamp x.queue = let x = c.args in
-    c.long_enough.ensures
-    ∙ (λ i. long_enough (c.count-places.ensures i) (c.count-catalogue.ensures i) x.place x.file x.size x.cost x.freq x.key x.stamp x.queue) in
-    simp (unit_passes, range_passes, told lengths c.if-not-long_enough.false, told c.eq.ensures c.if-eq.true)
+    simp (unit_passes, range_passes, told c.are_long.ensures c.if-not-are_long.false, told c.eq.ensures c.if-eq.true)
 
 pub returns : goal.returns
 unfolding settled
 returns c =
     let unit_passes : is_unit c.args.unit.0 ≡ true = told c.in_range.ensures c.if-not-in_range.false in
     let range_passes : in_range c.args.a.settings ≡ true = told c.in_range-2.ensures c.if-not-in_range-2.false in
-    let lengths : let x = c.args in c.long_enough.result ≡ long_enough x.a.settings.places.0 x.a.settings.catalogue.0 x.place x.file x.size x.cost x.freq x.key x.stamp x.queue = let x = c.args in
-    c.long_enough.ensures
-    ∙ (λ i. long_enough (c.count-places.ensures i) (c.count-catalogue.ensures i) x.place x.file x.size x.cost x.freq x.key x.stamp x.queue) in
-    simp (unit_passes, range_passes, told lengths c.if-not-long_enough.false, told c.eq.ensures c.if-eq.false)
+    simp (unit_passes, range_passes, told c.are_long.ensures c.if-not-are_long.false, told c.eq.ensures c.if-eq.false)

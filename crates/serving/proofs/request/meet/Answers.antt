@@ -6,11 +6,13 @@ use Rattle.serving.proofs.request.meet.Goals as goal
 pub hit-requires : goal.hit-requires
 hit-requires c = hittable_at c.requires c.if-home.true c.from.ensures
 
-pub returns-then-home : goal.returns-then-home
-returns-then-home c = strikes_at c.requires c.if-home.true c.from.ensures c.hit.ensures
+pub returns-then-home-clause-met : goal.returns-then-home-clause-met
+returns-then-home-clause-met c = 
+    let o = c.hit.ensures.others in
+    strikes_at c.requires c.if-home.true c.from.ensures o.place o.file o.size o.cost c.hit.ensures.hit
 
-pub returns-then-lt : goal.returns-then-lt
-returns-then-lt c = bigs c.requires c.if-home.false (search rules) c.counted.ensures
+pub returns-then-lt-clause-met : goal.returns-then-lt-clause-met
+returns-then-lt-clause-met c = bigs c.requires c.if-home.false (search rules) c.counted.ensures
 
-pub returns : goal.returns
-returns c = admitted c.requires c.if-home.false (search rules) c.admit.ensures
+pub returns-clause-met : goal.returns-clause-met
+returns-clause-met c = admitted c.requires c.if-home.false (search rules) c.admit.ensures.met

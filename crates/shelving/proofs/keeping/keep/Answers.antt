@@ -8,6 +8,6 @@ use Rattle.shelving.proofs.keeping.keep.Goals as goal
 pub insert-requires : goal.insert-requires
 insert-requires c =
     let x = c.args in
-    let e = sym c.put.ensures in
+    let e = sym c.put.ensures.kept in
     subst (λ (t : Tables). Insertable x.queue.now x.entry.now t.key t.stamp x.n x.p) e
     (insertable_record _ _ _ _ _ _ _ _ c.requires.insertable)
