@@ -53,7 +53,8 @@ pub(crate) fn read_field<F: Fn(u64) -> bool>(
     }
 }
 
-// The number at a place where there is one: what the checking pass has judged is not judged again.
+// The number at a place where there is one: what the checking pass has judged is not judged again. Its last byte ends
+// the loop, and no index is compared with an end, so the loop is by hand.
 pub(crate) fn number_at(part: &[u8], at: usize) -> Number
     requires { Numbered part.now at }
     ensures { NumberAt part.now at result }

@@ -26,7 +26,8 @@ fn past_request(part: &[u8], catalogue: Catalogue, at: usize) -> Result<usize, R
     Ok(cost.next)
 }
 
-// The checking pass: how many requests there are from a place on, or the refusal.
+// The checking pass: how many requests there are from a place on, or the refusal. Each request says where the next one
+// starts, so the loop is by hand.
 pub fn scan(part: &[u8], catalogue: Catalogue, from: usize) -> Result<usize, Refusal>
     requires { from ≤ length part.now }
     ensures { result ≡ counted 0 (read_of (length part.now) catalogue.0 (drop from part.now)) }

@@ -17,7 +17,8 @@ pub(crate) fn width(n: u64) -> usize
     groups
 }
 
-// The bytes of a number, from a place on; the place after them.
+// The bytes of a number, from a place on; the place after them. What is left of the number ends the loop, not an index,
+// so the loop is by hand.
 pub(crate) fn put_number(n: u64, out: &mut [u8], at: usize) -> usize
     requires n_le_number_most { n ≤ number_most }
     requires roomy { Roomy (encode n) at out.old }
