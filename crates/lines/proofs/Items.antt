@@ -3,7 +3,6 @@ use Prim.Native.Nat.{ℕ, ◌+◌, ◌*◌, ◌/◌, ◌%◌, ◌≤◌, ◌<◌
 use mathlib.Core.Path.{◌≡◌, refl, ap, sym, subst, ◌∙◌}
 use mathlib.Core.List.{List, [], ◌∷◌, ◌++◌}
 use native.Mathlib.Omega.{arith}
-use borrow.Author.Tests.{eq-eqb, ne_eqb}
 use lib.ListN.{length, set, length-set}
 use lib.Seq.{length-sets}
 use Rattle.amounts.specs.Limits.{catalogue_most}
@@ -11,7 +10,6 @@ use Rattle.method.specs.Events.{event}
 use Rattle.trace.specs.Stores.{Roomy, Laid}
 use Rattle.trace.proofs.Laying.{roomy_front, roomy_next, laid_then}
 use Rattle.lines.specs.Decimal.{decimal}
-use Rattle.lines.specs.Words as word
 use Rattle.lines.specs.Words.{space, line_feed}
 use Rattle.lines.specs.Lines.{item, kind_word, event_line}
 

@@ -1,5 +1,4 @@
--- Decimal numbers, the words and the lines of the sheet, and what laying them asks.
+-- Decimal numbers, the words and the lines of the sheet.
 pub mod Decimal
 pub mod Words
 pub mod Lines
-pub mod Laying

@@ -41,7 +41,18 @@ fn over_limit(
     let mut number = 0;
     for _ in 0..2 {
         let ran = carry_on(
-            tally.settings.unit, tally, place, file, size, cost, freq, key, stamp, queue, part, events,
+            tally.settings.unit,
+            tally,
+            place,
+            file,
+            size,
+            cost,
+            freq,
+            key,
+            stamp,
+            queue,
+            part,
+            events,
         );
         match ran {
             Ok(ended) => {

@@ -23,10 +23,7 @@ fn both(a: Tally) -> Ratios
 {
     let hits = ratio(a.hits, a.requests);
     let bytes = ratio(a.hit_bytes.0, a.bytes_asked.0);
-    Ratios {
-        hits,
-        bytes,
-    }
+    Ratios { hits, bytes }
 }
 
 // Both ratios of any tally: refused where it has no requests, then where its requests or bytes can't be those of a run, then where its bytes are no double.

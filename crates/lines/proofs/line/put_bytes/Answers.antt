@@ -1,5 +1,4 @@
 -- `lines::line::put_bytes` meets its contract: what is copied over is what storing byte after byte leaves. Assumes nothing.
-use mathlib.Core.Path.{◌≡◌, sym}
 use native.Mathlib.Omega.{arith}
 use Rattle.lines.proofs.Copying.{copied}
 use Rattle.lines.proofs.line.put_bytes.Goals as goal

@@ -1,6 +1,6 @@
 -- `words::forms::answer_word` meets its contract. Assumes nothing.
 use mathlib.Core.Path.{ap, sym, ◌∙◌}
-use Rattle.std.specs.Prelude.{ℕ, Result, Ok}
+use Rattle.std.specs.Prelude.{ℕ, Result}
 use Rattle.card.specs.declared.Refusal.{Refusal}
 use Rattle.trace.specs.Cards.{answer_card}
 use Rattle.words.specs.Words.{answer_word}
