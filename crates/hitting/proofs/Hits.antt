@@ -1,13 +1,11 @@
--- The numbers of a hit: the next frequency, and the queue's promise at equal numbers. Assumes nothing.
-use mathlib.Core.Path.{◌≡◌, refl, subst₂}
+-- The numbers of a hit: the next frequency. Assumes nothing.
+use mathlib.Core.Path.{◌≡◌, refl}
 use mathlib.Core.Bool.{Bool, true, false}
-use mathlib.Core.List.{List}
 use Prim.Native.Nat.{ℕ, suc, ◌≤◌}
 use native.Mathlib.Omega.{arith}
 use lib.Dec.{ltb}
 use borrow.Author.Tests.{ltb-true}
 use Rattle.amounts.specs.Limits.{pick, frequency_most}
-use Rattle.queue.specs.Queue.{Rekeyed}
 use Rattle.method.specs.Method.{Policy, gds, gdsf, again}
 
 -- document 02, ticket 5: a hit leaves the frequency within its limit
@@ -18,8 +16,3 @@ again_most gdsf f h = go (ltb f frequency_most) refl
     go : (b : Bool) → ltb f frequency_most ≡ b → pick b (suc f) f ≤ frequency_most
     go true e = omega (arith, ltb-true f frequency_most e)
     go false e = h
-
--- what is promised of equal numbers
-pub rekeyed_at : {q q' e e' k k' s s' : List ℕ} {n at at' key key' stamp : ℕ} → at ≡ at' → key ≡ key'
-    → Rekeyed q q' e e' k k' s s' n at key stamp → Rekeyed q q' e e' k k' s s' n at' key' stamp
-rekeyed_at {q} {q'} {e} {e'} {k} {k'} {s} {s'} {n} {stamp = stamp} a b r = subst₂ (λ (x y : ℕ). Rekeyed q q' e e' k k' s s' n x y stamp) a b r

@@ -40,6 +40,3 @@ module _ (queue keys keys' : List ℕ) (n i : ℕ) (a : Liftable queue keys n) (
           ))
           (λ ne. omega (arith, l.less p, total_more (is p) queue i, is_other p (get_or queue i 0) ne, get_or-set_other keys' (get_or queue i 0) p (get_or keys' (get_or queue i 0) 0 - lift) 0 ne))
           (same p (get_or queue i 0))
-
-pub lifted_done : (queue keys keys' : List ℕ) {i n : ℕ} → i ≡ n → Lifted queue keys keys' i → Lifted queue keys keys' n
-lifted_done queue keys keys' e l = rw e at l
