@@ -135,21 +135,14 @@ pub struct Settings {
 
 impl Settings {
     // Whether each setting is in its range.
+    #[tactic(auto, unfolding(crate::specs::Settings::in_range))]
     pub fn in_range(self) -> bool
         ensures { result ≡ in_range self }
     {
-        if !Unit::is_unit(self.unit.0) {
-            return false;
-        }
-        if !Policy::is_policy(self.policy.0) {
-            return false;
-        }
-        if !Bytes::is_capacity(self.capacity.0) {
-            return false;
-        }
-        if !Places::is_places(self.places.0) {
-            return false;
-        }
-        Catalogue::is_catalogue(self.catalogue.0)
+        self.unit.in_range()
+            && Policy::is_policy(self.policy.0)
+            && Bytes::is_capacity(self.capacity.0)
+            && Places::is_places(self.places.0)
+            && self.catalogue.in_range()
     }
 }

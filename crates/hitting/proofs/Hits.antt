@@ -1,4 +1,4 @@
--- The numbers of a hit: the next frequency, and the queue's promise at equal numbers. Assumes nothing.
+-- The numbers of a hit: the next frequency. Assumes nothing.
 use mathlib.Core.Path.{◌≡◌, refl}
 use mathlib.Core.Bool.{Bool, true, false}
 use Prim.Native.Nat.{ℕ, suc, ◌≤◌}

@@ -1,5 +1,6 @@
 -- Large numbers compared word by word are compared as the numbers that they are. Assumes nothing.
-use mathlib.Core.Path.{◌≡◌, sym}
+use mathlib.Core.Path.{◌≡◌, refl, sym}
+use mathlib.Core.Bool.{false}
 use Prim.Native.Nat.{ℕ, ◌/◌, ◌%◌, ◌<◌}
 use native.Mathlib.Omega.{arith}
 use lib.Dec.{leb}
@@ -9,6 +10,10 @@ use Rattle.std.specs.Ordering.{MatchOrdering, nat_cmp, is_le, is_some_and, parti
 use Rattle.std.proofs.Common.{Some, Ordering, Less, Equal, Greater}
 use Rattle.amounts.specs.Limits.{lift}
 use Rattle.large.specs.contracts.LargePartialOrd.TheImpl.{partial_cmp-value}
+
+-- one lift is not at most 1, though nothing is left beside it
+lifts_first : partial_le partial_cmp-value.it lift 1 ≡ false
+lifts_first = refl
 
 -- document 02, ticket 5: `<=` of two large numbers, whose lifts are compared before what is left
 pub le_value : (a b : ℕ) → partial_le partial_cmp-value.it a b ≡ leb a b

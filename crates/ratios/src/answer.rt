@@ -3,12 +3,13 @@ ghost use Rattle.std.specs.Prelude.{◌≡◌};
 ghost use Rattle.ratios.specs.Ratios.{ratios_of, Rateable, ratio_card, Rates};
 
 use crate::division::ratio;
+use amounts::Bytes;
 use card::Refusal;
 use tables::Tally;
 use totals::counts_agree;
 
 // 2 to the 53rd, up to which a double has every count exactly.
-const EXACT: u64 = 9007199254740992;
+const EXACT: Bytes = Bytes(9007199254740992);
 
 #[derive(Clone, Copy, Debug)]
 pub struct Ratios {
@@ -36,7 +37,7 @@ pub fn ratios_of(a: Tally) -> Result<Ratios, Refusal>
     if !counts_agree(a) {
         return Err(Refusal::Unsound);
     }
-    if EXACT < a.bytes_asked.0 {
+    if EXACT < a.bytes_asked {
         return Err(Refusal::Inexact);
     }
     let ratios = both(a);
