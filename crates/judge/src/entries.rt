@@ -72,5 +72,5 @@ pub(crate) fn rest_zero(settings: Settings, n: usize, queue: &[u16]) -> bool
     ensures { Exact (Rest settings n (tables [] [] [] [] [] [] [] queue.now)) result }
 {
     let places = settings.places.count();
-    queue[..places].iter().skip(n).all(|held| *held == 0)
+    (n..places).all(|i| queue[i] == 0)
 }
