@@ -39,7 +39,17 @@ fn meet(
     if home != Places::NONE {
         return Untold {
             outcome: Outcome::Hit,
-            tally: hit(a, usize::from(home), size, cost, freq, key, stamp, queue, entry),
+            tally: hit(
+                a,
+                usize::from(home),
+                size,
+                cost,
+                freq,
+                key,
+                stamp,
+                queue,
+                entry,
+            ),
             due: at,
         };
     }

@@ -4,8 +4,8 @@ use Rattle.weighing.proofs.Shelving.{weighable, balanced_as}
 use Rattle.tables.proofs.Answers.{answer_as, passed}
 use Rattle.weighing.proofs.shelf.shelf_agrees.Goals as goal
 
-pub sums_agree-requires : goal.sums_agree-requires
-sums_agree-requires c = record { weighable = weighable _ _ c.requires (passed c.all_lawful.ensures c.if-not-all_lawful.false); requests_le_requests_most = c.requires.few }
+pub sums_agree-requires-clause-weighable : goal.sums_agree-requires-clause-weighable
+sums_agree-requires-clause-weighable c = weighable _ _ c.requires (passed c.all_lawful.ensures c.if-not-all_lawful.false)
 
 pub returns : goal.returns
 returns c =
