@@ -1,7 +1,7 @@
 -- The pass over the queue's entries: what holds after i turns. Assumes nothing.
 use mathlib.Core.Path.{◌≡◌, refl, sym, ap, ◌∙◌}
 use mathlib.Core.Logic.{inl, inr, ⊎_elim}
-use mathlib.Core.Bool.{Bool, true, false, true≢false}
+use mathlib.Core.Bool.{false, true≢false}
 use mathlib.Core.List.{List}
 use Prim.Native.Nat.{ℕ, ◌+◌, ◌≤◌, ◌<◌}
 use native.Mathlib.Omega.{arith}
@@ -11,11 +11,10 @@ use lib.Seq.{get_or-set_same, get_or-set_other}
 use Rattle.amounts.specs.Limits.{no_place}
 use Rattle.amounts.specs.declared.settings.Settings.{Settings}
 use Rattle.amounts.proofs.Tests.{same}
-use Rattle.tables.specs.Tables.{Tables, filled}
+use Rattle.tables.specs.Tables.{Tables}
 use Rattle.tables.specs.Sound.{Occupied, Entries, Queued}
-use Rattle.tables.proofs.Lists.{length_filled, at_filled}
 use Rattle.tables.proofs.Counting.{times_twice}
-use Rattle.judge.specs.Passes.{Indexable, Unnoted, Notes, Noted}
+use Rattle.judge.specs.Passes.{Indexable, Notes, Noted}
 
 module _ (s : Settings) (n : ℕ) (t : Tables) (entry₀ : List ℕ) where
   -- the first i entries hold occupied places, each noted once, and nothing else is noted
@@ -27,17 +26,10 @@ module _ (s : Settings) (n : ℕ) (t : Tables) (entry₀ : List ℕ) where
     pub long : length entry ≡ length entry₀
 
   module _ (a : Indexable s n t entry₀) where
-    pub noting_start : Unnoted s entry₀ → Noting entry₀ 0
-    noting_start u = record { most = omega arith; entries = λ k l. absurd (omega arith); index = λ k l. absurd (omega arith); notes = λ p l. inl (u p l); long = refl }
-
     module _ (entry : List ℕ) (i : ℕ) (g : Noting entry i) (h : i < n) where
       -- the place of entry i
       abbrev at : ℕ
       at = get_or t.queue i 0
-
-      -- it is not occupied
-      pub noting_vacant : (Occupied s t at → ⊥) → Noted s n t entry₀ entry false
-      noting_vacant ne = record { yes = λ e. absurd (true≢false (sym e)); no = λ _ q. ne (q.entries i h); long = g.long }
 
       -- it is noted already
       pub noting_twice : Occupied s t at → (get_or entry at 0 ≡ no_place → ⊥) → Noted s n t entry₀ entry false
@@ -72,26 +64,3 @@ module _ (s : Settings) (n : ℕ) (t : Tables) (entry₀ : List ℕ) where
           notes = λ p l. ⊎_elim (λ e. here p e) (λ ne. still p ne (g.notes p l)) (same p at);
           long = length-set entry at i ∙ g.long;
         }
-
-    pub noting_done : (entry : List ℕ) (i : ℕ) → Noting entry i → n ≤ i → Noted s n t entry₀ entry true
-    noting_done entry i g h = record {
-      yes = λ _. record {
-        entries = λ k l. g.entries k (omega arith);
-        indexed = record { index = λ k l. g.index k (omega arith) };
-        notes = λ p l. ⊎_elim (λ z. inl z) (λ x. inr (omega (arith, x.0, g.most), x.1)) (g.notes p l);
-      };
-      no = λ e. absurd (true≢false e);
-      long = g.long;
-    }
-
--- the index is cleared before the entries are noted
-pub indexable_filled : {s : Settings} {n : ℕ} {t : Tables} {entry entry' : List ℕ} {places : ℕ} → places ≡ s.places.0 → Indexable s n t entry → entry' ≡ filled places no_place entry
-    → Indexable s n t entry' × Unnoted s entry'
-indexable_filled {entry = entry} {entry' = entry'} {places = places} c a e =
-    let long : length entry' ≡ length entry = ap length e ∙ length_filled places no_place entry (omega (arith, a.entry_long)) in (
-      record { few = a.few; most = a.most; place_long = a.place_long; file_long = a.file_long; queue_long = a.queue_long; entry_long = omega (arith, a.entry_long) },
-      λ p l. ap (λ (m : List ℕ). get_or m p 0) e ∙ at_filled places no_place entry p (omega arith),
-    )
-
-pub noted_from : {s : Settings} {n : ℕ} {t : Tables} {entry₀ entry entry' : List ℕ} {answer : Bool} → Noted s n t entry entry' answer → length entry ≡ length entry₀ → Noted s n t entry₀ entry' answer
-noted_from h e = record { yes = h.yes; no = h.no; long = h.long ∙ e }

@@ -1,7 +1,7 @@
 -- The pass over the places: what holds after p turns. Assumes nothing.
 use mathlib.Core.Path.{◌≡◌, refl, sym, ap, ◌∙◌, subst}
 use mathlib.Core.Logic.{⊎_elim}
-use mathlib.Core.Bool.{true, false, not, true≢false}
+use mathlib.Core.Bool.{not}
 use mathlib.Core.List.{List}
 use Prim.Native.Nat.{ℕ, ◌+◌, ◌≤◌, ◌<◌}
 use native.Mathlib.Omega.{arith}
@@ -17,8 +17,7 @@ use Rattle.tables.specs.Tables.{Tables}
 use Rattle.tables.specs.Below.{sum_below}
 use Rattle.tables.specs.Sound.{Occupied, Zero}
 use Rattle.tables.proofs.Counting.{sum_below_more}
-use Rattle.tables.proofs.Answers.{answer_yes, answer_no}
-use Rattle.judge.specs.Passes.{noted, Stackable, Stacked}
+use Rattle.judge.specs.Passes.{noted, Stackable}
 
 pub noted_none : (entry : List ℕ) (p : ℕ) → get_or entry p 0 ≡ no_place → noted entry p ≡ 0
 noted_none entry p e = ap (λ b. one (not b)) (eq-eqb (get_or entry p 0) no_place e)
@@ -53,28 +52,7 @@ module _ (s : Settings) (t : Tables) (entry free₀ : List ℕ) where
       long = refl;
     }
 
-    pub stacking_done : (free : List ℕ) (top p : ℕ) → Stacking free top p → s.places.0 ≤ p → Stacked s t entry free₀ free true
-    stacking_done free top p g h =
-        let e : p ≡ s.places.0 = omega (arith, g.most) in
-        let n : top + sum_below (noted entry) s.places.0 ≡ s.places.0 = ap (λ (k : ℕ). top + sum_below (noted entry) k) (sym e) ∙ g.count ∙ e in
-        record {
-          exact = answer_yes (record { indexed = λ k l. g.indexed k (omega arith); unused = λ k l. g.unused k (omega arith) });
-          spare = λ _. record {
-            unused = λ i l. let x = g.spare i (omega arith) in (omega (arith, x.0), x.1);
-            apart = λ i j l m. g.apart i j (omega arith) (omega arith);
-          };
-          long = g.long;
-        }
-
     module _ (free : List ℕ) (top p : ℕ) (g : Stacking free top p) (h : p < s.places.0) where
-      -- an occupied place that is not in the index
-      pub stacking_lost : Occupied s t p → get_or entry p 0 ≡ no_place → Stacked s t entry free₀ free false
-      stacking_lost w e = record { exact = answer_no (λ u. u.indexed p h w e); spare = λ z. absurd (true≢false (sym z)); long = g.long }
-
-      -- an unused place that is not 0
-      pub stacking_dirty : (Occupied s t p → ⊥) → (Zero t p → ⊥) → Stacked s t entry free₀ free false
-      stacking_dirty w e = record { exact = answer_no (λ u. e (u.unused p h w)); spare = λ z. absurd (true≢false (sym z)); long = g.long }
-
       -- an occupied place
       pub stacking_used : Occupied s t p → (get_or entry p 0 ≡ no_place → ⊥) → Stacking free top (p + 1)
       stacking_used w ne = record {

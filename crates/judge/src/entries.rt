@@ -59,5 +59,5 @@ pub(crate) fn rest_zero(t: Tables, settings: Settings, n: usize) -> bool
     ensures { Exact (Rest settings n (shown t.entry)) result }
 {
     let places = settings.places.count();
-    t.queue[..places].iter().skip(n).all(|held| *held == 0)
+    (n..places).all(|i| t.queue[i] == 0)
 }

@@ -43,18 +43,7 @@ pub fn serve_part(
         let z = Bytes::size(u64::from(q.size));
         let w = Cost::asked(u64::from(q.cost));
         let step = serve(
-            b,
-            f,
-            z,
-            w,
-            r,
-            key,
-            stamp,
-            queue,
-            entry,
-            free,
-            events,
-            told,
+            b, f, z, w, r, key, stamp, queue, entry, free, events, told,
         );
         let tally = step.tally;
         b = tally;

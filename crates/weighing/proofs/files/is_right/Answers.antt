@@ -13,11 +13,10 @@ pub returns-then-not-is_size : goal.returns-then-not-is_size
 returns-then-not-is_size c = answer_denied c.is_size.ensures c.if-not-is_size.true (λ w. in_one_to size_most _ w.fine.valued.size_least w.fine.valued.size_at_most)
 
 -- size and cost were found in range
-pub kept_product-most-requires : goal.kept_product-most-requires
-kept_product-most-requires c =
+pub kept_product-most-requires-clause-valued : goal.kept_product-most-requires-clause-valued
+kept_product-most-requires-clause-valued c =
     let size = one_to_lem size_most _ (told c.is_size.ensures c.if-not-is_size.false) in
-    let valued : Valued c.args.size c.args.cost = record { size_least = size.0; size_at_most = size.1; cost_least = omega arith; cost_at_most = omega arith } in
-    record { valued = valued; freq_le_frequency_most = omega arith }
+    record { size_least = size.0; size_at_most = size.1; cost_least = omega arith; cost_at_most = omega arith }
 
 pub returns : goal.returns
 returns c =
