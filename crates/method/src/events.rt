@@ -69,7 +69,7 @@ impl Outcome {
     }
 }
 
-// An entry of the event list.
+// An entry of the event list. It takes the kind's number and no `Kind`: 0 may be asked for too, so the enum would ask more of a caller.
 pub fn event(kind: u32, file: usize) -> u32
     requires { (kind ≤ 6) × (file < catalogue_most) }
     ensures { result ≡ events.event kind file }
