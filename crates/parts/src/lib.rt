@@ -42,9 +42,7 @@ pub fn serve_part(
         let f = usize::from(q.file);
         let z = Bytes::size(u64::from(q.size));
         let w = Cost::asked(u64::from(q.cost));
-        let step = serve(
-            b, f, z, w, r, key, stamp, queue, entry, free, events, told,
-        );
+        let step = serve(b, f, z, w, r, key, stamp, queue, entry, free, events, told);
         let tally = step.tally;
         b = tally;
         told = step.events;

@@ -30,14 +30,25 @@ fn carry_sound(
     let mut entry = [0u16; Places::MOST as usize];
     let mut free = [0u16; Places::MOST as usize];
     let t = Tables {
-        place, file, size, cost, freq, key, stamp, queue
+        place,
+        file,
+        size,
+        cost,
+        freq,
+        key,
+        stamp,
+        queue,
     };
     if !is_sound(a, t, &mut entry, &mut free) {
         return Err(Refusal::Unsound);
     }
     let count = room_for(a, part, events.len())?;
     let mut r = Records {
-        place, file, size, cost, freq
+        place,
+        file,
+        size,
+        cost,
+        freq,
     };
     Ok(serve_part(
         a, part, count, &mut r, key, stamp, queue, &mut entry, &mut free, events,
@@ -62,7 +73,14 @@ pub fn carry_on(
     ensures { Carries a (tables place.old file.old size.old cost.old freq.old key.old stamp.old queue.old) events.old (carried a result) (tables place.new file.new size.new cost.new freq.new key.new stamp.new queue.new) events.new unit.0 part.now }
 {
     let t = Tables {
-        place, file, size, cost, freq, key, stamp, queue
+        place,
+        file,
+        size,
+        cost,
+        freq,
+        key,
+        stamp,
+        queue,
     };
     judge_settings(unit, a, t)?;
     carry_sound(

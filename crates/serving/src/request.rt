@@ -48,9 +48,7 @@ fn meet(
             due: at,
         };
     }
-    admit(
-        a, f, z, w, r, key, stamp, queue, entry, free, events, at,
-    )
+    admit(a, f, z, w, r, key, stamp, queue, entry, free, events, at)
 }
 
 // Serves a request for file f, of size z and cost w, after the lift that may be due, and writes its events from `at` on: a stale copy, the evictions, and its own entry, which is that of its outcome.
@@ -73,9 +71,7 @@ pub fn serve(
     ensures stepped { Stepped a (asked f z.0 w.0) (tables_of r.old key.old stamp.old queue.old) events.old at result (tables_of r.new key.new stamp.new queue.new) entry.new free.new events.new }
 {
     let lifted = lift(a, queue, key);
-    let cleaned = drop_stale(
-        lifted, f, z, r, key, stamp, queue, entry, free, events, at,
-    );
+    let cleaned = drop_stale(lifted, f, z, r, key, stamp, queue, entry, free, events, at);
     let met = meet(
         cleaned.tally,
         f,

@@ -52,7 +52,14 @@ pub fn fresh(
         return Err(Refusal::Setting);
     }
     let t = Tables {
-        place, file, size, cost, freq, key, stamp, queue
+        place,
+        file,
+        size,
+        cost,
+        freq,
+        key,
+        stamp,
+        queue,
     };
     if !t.are_long(settings) {
         return Err(Refusal::Short);

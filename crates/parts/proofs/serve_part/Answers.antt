@@ -29,9 +29,11 @@ pub loop-preserved : goal.loop-preserved
 loop-preserved c =
     let inside : c.loop.counter < c.args.count = omega (arith, c.loop-test.true) in
     let size_is : c.size-z.result.0 ≡ c.request_at-taken.result.request.size = c.size-z.ensures ∙ c.from.ensures in
-    let cost_is : c.asked-w.result.0 ≡ c.request_at-taken.result.request.cost = c.asked-w.ensures ∙ c.from-in-loop.ensures in
-    (same_more c.loop.invariant.0 c.serve-step.ensures.same, walk_more _ _ _ _ _ _ _ _ _ _ _ _ _ c.loop.invariant.1 inside _ c.request_at-taken.ensures _ _ _ c.from-f.ensures size_is cost_is _ _ _ _ _
-    c.serve-step.ensures.stepped)
+    let cost_is : c.asked-w.result.0 ≡ c.request_at-taken.result.request.cost = c.asked-w.ensures ∙ c.from-in-loop.ensures in (
+      same_more c.loop.invariant.0 c.serve-step.ensures.same,
+      walk_more _ _ _ _ _ _ _ _ _ _ _ _ _ c.loop.invariant.1 inside _ c.request_at-taken.ensures _ _ _ c.from-f.ensures size_is cost_is _ _ _ _ _
+          c.serve-step.ensures.stepped,
+    )
 
 pub returns-clause-served : goal.returns-clause-served
 returns-clause-served c = walk_end _ _ _ _ _ _ _ _ _ _ _ _ _ c.loop.invariant.1 (omega (arith, c.loop-test.false)) _ refl refl

@@ -7,7 +7,7 @@ pub hit-requires : goal.hit-requires
 hit-requires c = hittable_at c.requires c.if-home.true c.from.ensures
 
 pub returns-then-home-clause-met : goal.returns-then-home-clause-met
-returns-then-home-clause-met c = 
+returns-then-home-clause-met c =
     let o = c.hit.ensures.others in
     strikes_at c.requires c.if-home.true c.from.ensures o.place o.file o.size o.cost c.hit.ensures.hit
 
