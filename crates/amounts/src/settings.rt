@@ -28,6 +28,7 @@ impl Unit {
 }
 
 // 1 is GreedyDual-Size, 2 is GreedyDual-Size-Frequency.
+// A number and no enum: `fresh`, `write_file` and `carry_on` promise refusal 1 for settings with any other.
 #[derive(Clone, Copy, Debug, PartialEq, Eq)]
 pub struct Policy(pub u64);
 
@@ -56,7 +57,7 @@ pub struct Places(pub u64);
 
 impl Places {
     pub const MOST: u64 = 4096;
-    // In the table by file number: the file has no place.
+    // In the table by file number: the file has no place. C lends the table, so it is a number.
     pub const NONE: u16 = 65535;
 
     pub fn is_places(n: u64) -> bool

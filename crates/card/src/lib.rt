@@ -33,7 +33,7 @@ pub enum Refusal {
 }
 
 impl Refusal {
-    // The number on the card.
+    // The number on the card: with the value below it is what C is told, so it is a number.
     pub fn number(self) -> u64
         ensures { result ≡ (card_of self).number }
     {

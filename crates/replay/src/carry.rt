@@ -55,7 +55,7 @@ fn carry_sound(
     ))
 }
 
-// Carries a run on over a further part of its trace, only under the unit that its tally names.
+// Carries a run on over a further part of its trace, only under the unit that its tally names. C lends the eight slices one by one.
 pub fn carry_on(
     unit: Unit,
     a: Tally,

@@ -18,7 +18,7 @@ fn main(rt: HostRuntime) -> io::Result<()> {
     }
 }
 
-// Reads until the buffer is full or the input ends, and says how many bytes were put at its start.
+// Reads until the buffer is full or the input ends, and says how many bytes were put at its start. A `while`: how much a read gives is known after it.
 fn read_full<R: Read>(from: &mut R, buf: &mut [u8]) -> io::Result<usize>
     ensures { IfOk result (λ n. n ≤ length buf.new) }
 {

@@ -35,6 +35,7 @@ fn clear_all(
 }
 
 // A fresh start: refused for a setting out of range or a table too short, and then nothing is written.
+// The eight slices go one by one, since C lends them so and a run takes three of them at once.
 pub fn fresh(
     settings: Settings,
     place: &mut [u16],

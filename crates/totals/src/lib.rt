@@ -12,6 +12,7 @@ use amounts::{Key, Requests};
 use tables::Tally;
 
 // Whether bytes asked and hit bytes lie within their bounds.
+// Costs have a function of their own: one for both would need a trait with the limit, the number and its order, which is longer.
 fn bytes_agree(a: Tally) -> bool
     requires hits_le_requests_most { a.hits ≤ requests_most }
     requires requests_le_requests_most { a.requests ≤ requests_most }
