@@ -33,7 +33,7 @@ pub enum Refusal {
 }
 
 impl Refusal {
-    // The number on the card: with the value below it is what C is told, so it is a number.
+    // The number on the card, which C is told with the value below: two numbers for one refusal, which no one `From` gives.
     pub fn number(self) -> u64
         ensures { result ≡ (card_of self).number }
     {

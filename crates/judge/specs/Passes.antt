@@ -1,4 +1,4 @@
--- What each pass of the judge decides, in the words of soundness; a pass that reads some lists alone has [] for the others. Assumes nothing.
+-- What each pass of the judge decides, in the words of soundness. Assumes nothing.
 use Rattle.std.specs.Prelude.{◌≡◌, ◌⊎◌, Bool, true, false, not, List, ℕ, ◌≤◌, ◌<◌, eqb, length, get_or}
 use Rattle.amounts.specs.Limits.{places_most, no_place}
 use Rattle.amounts.specs.declared.settings.Settings.{Settings}

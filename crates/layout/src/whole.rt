@@ -61,7 +61,7 @@ fn put_sheet(trace: &[u8], text: &mut [u8]) -> usize
     }
 }
 
-// The sheet of a trace, into the front of `out`.
+// The sheet of a trace, into the front of `out`. The text goes with its length, since the project has no heap to put it on.
 pub fn sheet(trace: &[u8], out: &mut [u8]) -> Result<usize, Refusal>
     ensures { Sheeted trace.now out.old result out.new }
 {

@@ -14,7 +14,7 @@ pub(crate) fn settings(unit: u64, capacity: u64, places: u64) -> Settings {
     }
 }
 
-// Writes the trace of the requests into a buffer and prints its sheet.
+// Writes the trace of the requests into a buffer, with its length beside since there is no heap, and prints its sheet.
 fn print_sheet(
     rt: &impl Print,
     settings: Settings,

@@ -10,7 +10,7 @@ use parts::{Ended, serve_part};
 use refusing::{judge_settings, room_for};
 use tables::{Records, Tables, Tally};
 
-// Carries on over tables whose settings and lengths are in order.
+// Carries on over tables whose settings and lengths are in order: the eight slices as `carry_on` has them.
 fn carry_sound(
     a: Tally,
     place: &mut [u16],

@@ -1,5 +1,6 @@
 // The tables of records that the queue does not read, as one value: whoever is handed it lends the same slices on.
-// The keys, the stamps and the queue go beside it, since the queue takes all three at once and no rule lends two slices of one value.
+// Keys, stamps and queue go beside it: the queue takes all three at once, and the check has no rule yet for two slices of one lent value in one call.
+// The queue's index goes with them; the free places and the events are no tables of the caller's.
 
 // Per file number its place; per place the file kept there, its size, its cost and its frequency.
 #[derive(Drop)]

@@ -8,7 +8,7 @@ use crate::tally::Tally;
 use amounts::{Places, Settings};
 use card::Refusal;
 
-// Every needed entry is set: no file has a place, and all else is 0.
+// Every needed entry is set: no file has a place, and all else is 0. The slices as `fresh` has them, each set alone.
 fn clear_all(
     places: usize,
     catalogue: usize,

@@ -20,7 +20,7 @@ fn is_once(policy: Policy, freq: u32) -> bool
     true
 }
 
-// Whether a record is in range at an inflation after so many requests.
+// Whether a record is in range at an inflation after so many requests. It goes field by field, as it is read from six tables for this one test.
 fn is_right(
     policy: Policy,
     inflation: Key,

@@ -1,4 +1,4 @@
-// Both ratios as doubles.
+// Both ratios as doubles, over a list that C lends.
 ghost use Rattle.std.specs.Prelude.{◌≡◌, ◌≤◌, length};
 ghost use Rattle.trace.specs.Promise.{over};
 ghost use Rattle.ratios.specs.Ratios.{doubles_of};

@@ -1,4 +1,5 @@
 // An answer as one word, and settings and tally as words.
+// Functions and no `From`: the words are C's, a slice of them must be long enough, and no type here is this crate's own.
 ghost use Rattle.std.specs.Prelude.{◌≡◌, ◌<◌, ◌≤◌, length};
 ghost use Rattle.card.specs.Card.{card_of};
 ghost use Rattle.trace.specs.Cards.{answer_card, numbers};
