@@ -1,15 +1,20 @@
 -- What the functions below the reading entry points promise: the steps of their loops. Assumes nothing.
-use Rattle.std.specs.Prelude.{ℕ, ◌+◌, ◌≤◌, ◌<◌, ◌≡◌, List, ◌∷◌, Bool, true, length, drop, Result, Ok, Err, MatchResult}
+use Rattle.std.specs.Prelude.{ℕ, ◌+◌, ◌≤◌, ◌<◌, ◌≡◌, List, ◌∷◌, Bool, true, false, length, drop, Result, Ok, Err, MatchResult}
 use Rattle.amounts.specs.Limits.{is_catalogue}
 use Rattle.amounts.specs.Requests.{Request}
 use Rattle.card.specs.declared.Refusal.{Refusal}
-use Rattle.card.specs.declared.Refusal.TheVariants.{Form}
+use Rattle.card.specs.declared.Refusal.TheVariants.{Setting, Form}
 use Rattle.trace.specs.Fields.{Field, val, off}
 use Rattle.trace.specs.Number.{num, bad, decode}
 use Rattle.trace.specs.Reading.{Read, good, stop, push, read_of, roomy, rows}
 use Rattle.trace.specs.Promise.{Over, room}
 use Rattle.trace.specs.declared.number.Number.{Number}
+use Rattle.trace.specs.declared.numbers.FileNumbers.{FileNumbers}
 use Rattle.trace.specs.declared.reader.Taken.{Taken}
+
+-- document 01, "Numbers on the red card", 1: r is a catalogue in range, or the refusal of one that is not
+abbrev pub Numbering : ℕ → Result FileNumbers Refusal → Type 0
+Numbering catalogue r = MatchResult r (λ numbers. numbers.catalogue.0 ≡ catalogue) (λ e. (e ≡ Setting) × (is_catalogue catalogue ≡ false))
 
 -- there is a number at a place of the bytes
 pub record Numbered (part : List ℕ) (at : ℕ) : Type 0 where

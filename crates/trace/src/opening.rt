@@ -4,6 +4,7 @@ ghost use Rattle.trace.specs.Cards.{opening_card, opening_answer};
 ghost use Rattle.trace.specs.Promise.{ReadFile};
 
 use crate::number::read_field;
+use crate::numbers::FileNumbers;
 use crate::reader::read_from;
 use amounts::{Bytes, Catalogue, Places, Policy, Settings, Unit};
 use card::Refusal;
@@ -42,6 +43,9 @@ pub fn read_file(
     ensures { ReadFile trace.now files.old sizes.old costs.old result files.new sizes.new costs.new }
 {
     let (settings, at) = settings_at(trace)?;
-    let count = read_from(trace, settings.catalogue, at, files, sizes, costs)?;
+    let numbers = FileNumbers {
+        catalogue: settings.catalogue,
+    };
+    let count = read_from(trace, numbers, at, files, sizes, costs)?;
     Ok((settings, count))
 }

@@ -1,11 +1,11 @@
 // Reading requests, from a further part or from behind the settings of a file.
-ghost use Rattle.std.specs.Prelude.{◌≡◌, true, ◌≤◌, ◌<◌, length, drop};
-ghost use Rattle.amounts.specs.Limits.{is_catalogue};
+ghost use Rattle.std.specs.Prelude.{◌≡◌, ◌≤◌, ◌<◌, length, drop};
 ghost use Rattle.trace.specs.Reading.{read_of, rows};
 ghost use Rattle.trace.specs.Steps.{Requested, RequestAt, RequestRead, counted, Ready, ReadFrom};
 ghost use Rattle.trace.specs.Promise.{Over, ReadPart};
 
 use crate::number::{number_at, read_field};
+use crate::numbers::FileNumbers;
 use crate::request::{Request, is_file};
 use amounts::{Bytes, Catalogue, Cost};
 use card::Refusal;
@@ -93,21 +93,20 @@ pub(crate) fn fill(
 // The requests from a place on, into the fronts of three lists.
 pub(crate) fn read_from(
     part: &[u8],
-    catalogue: Catalogue,
+    numbers: FileNumbers,
     from: usize,
     files: &mut [u16],
     sizes: &mut [u32],
     costs: &mut [u16],
 ) -> Result<usize, Refusal>
-    requires from_in_bounds { from ≤ length part.now }
-    requires catalogue_value { is_catalogue catalogue.0 ≡ true }
-    ensures { ReadFrom (read_of (length part.now) catalogue.0 (drop from part.now)) files.old sizes.old costs.old result files.new sizes.new costs.new }
+    requires { from ≤ length part.now }
+    ensures { ReadFrom (read_of (length part.now) numbers.catalogue.0 (drop from part.now)) files.old sizes.old costs.old result files.new sizes.new costs.new }
 {
-    let count = scan(part, catalogue, from)?;
+    let count = scan(part, numbers.catalogue, from)?;
     if files.len() < count || sizes.len() < count || costs.len() < count {
         return Err(Refusal::Room);
     }
-    fill(part, catalogue.0, from, count, files, sizes, costs);
+    fill(part, numbers.catalogue.0, from, count, files, sizes, costs);
     Ok(count)
 }
 
@@ -121,8 +120,6 @@ pub fn read_part(
 ) -> Result<usize, Refusal>
     ensures { ReadPart catalogue.0 part.now files.old sizes.old costs.old result files.new sizes.new costs.new }
 {
-    if !catalogue.in_range() {
-        return Err(Refusal::Setting);
-    }
-    read_from(part, catalogue, 0, files, sizes, costs)
+    let numbers = FileNumbers::of(catalogue)?;
+    read_from(part, numbers, 0, files, sizes, costs)
 }

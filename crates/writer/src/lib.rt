@@ -3,5 +3,6 @@
 
 mod lists;
 mod number;
+mod rows;
 
 pub use lists::{put_request, put_settings, request_width, settings_width, write_file, write_part};

@@ -3,7 +3,7 @@ ghost use Rattle.std.specs.Prelude.{◌≡◌, ◌≤◌, length};
 ghost use Rattle.trace.specs.Number.{encode, number_most};
 ghost use Rattle.trace.specs.Stores.{Roomy, Laid};
 
-// How many bytes spell a number.
+// How many bytes spell a number. What is left of the number ends the loop, not an index, so the loop is by hand.
 pub(crate) fn width(n: u64) -> usize
     requires { n ≤ number_most }
     ensures { result ≡ length (encode n) }
@@ -17,8 +17,7 @@ pub(crate) fn width(n: u64) -> usize
     groups
 }
 
-// The bytes of a number, from a place on; the place after them. What is left of the number ends the loop, not an index,
-// so the loop is by hand.
+// The bytes of a number, from a place on; the place after them. What is left of the number ends this loop too.
 pub(crate) fn put_number(n: u64, out: &mut [u8], at: usize) -> usize
     requires n_le_number_most { n ≤ number_most }
     requires roomy { Roomy (encode n) at out.old }

@@ -10,10 +10,11 @@ returns-in_err-settings c =
     let p = err_from_is_err_and c.from_residual.result c.from_residual.ensures.1 in
     rw (p.1, p.2) (file_shut _ _ _ _ _ (start_shut _ _ _ c.in_err-settings.ensures refl))
 
+pub invariant_of-numbers : goal.invariant_of-numbers
+invariant_of-numbers c = record { in_range = (five _ _ _ _ (start_at _ _ _ _ c.in_ok-settings.ensures refl).1).catalogue_in }
+
 pub read_from-requires : goal.read_from-requires
-read_from-requires c =
-    let p = start_at _ _ _ _ c.in_ok-settings.ensures refl in
-    record { from_in_bounds = p.0; catalogue_value = (five _ _ _ _ p.1).catalogue_in }
+read_from-requires c = (start_at _ _ _ _ c.in_ok-settings.ensures refl).0
 
 pub returns-in_err-count : goal.returns-in_err-count
 returns-in_err-count c =

@@ -12,11 +12,11 @@ loop-i-init c = omega arith
 
 pub returns-then-not-in_range : goal.returns-then-not-in_range
 returns-then-not-in_range c =
-    out_here _ _ _ _ c.requires _ c.loop-i.invariant c.loop-i-test.true (ap (is_request _) (sym c.row_at.ensures) ∙ told c.in_range.ensures c.if-not-in_range.true)
+    out_here _ _ _ _ c.args.rows.listed _ c.loop-i.invariant (omega arith) (ap (is_request _) (sym c.row.ensures) ∙ told c.in_range.ensures c.if-not-in_range.true)
 
 pub loop-i-preserved : goal.loop-i-preserved
 loop-i-preserved c =
-    out_later _ _ _ _ c.requires _ c.loop-i.invariant c.loop-i-test.true (ap (is_request _) (sym c.row_at.ensures) ∙ told c.in_range.ensures c.if-not-in_range.false)
+    out_later _ _ _ _ c.args.rows.listed _ c.loop-i.invariant (omega arith) (ap (is_request _) (sym c.row.ensures) ∙ told c.in_range.ensures c.if-not-in_range.false)
 
 pub returns : goal.returns
-returns c = omega (arith, out_none _ _ _ _ c.requires _ c.loop-i.invariant c.loop-i-test.false)
+returns c = omega (arith, out_none _ _ _ _ c.args.rows.listed _ c.loop-i.invariant (omega arith))

@@ -13,13 +13,13 @@ loop-i-init c = (omega arith, refl)
 
 pub returns-then-room-total : goal.returns-then-room-total
 returns-then-room-total c =
-    measure_short _ _ _ c.requires _ _ _ _ c.loop-i.invariant.1 c.loop-i.invariant.0 c.loop-i-test.true _ (c.request_width-more.ensures ∙ ap (λ (q : Request). length (request_bytes q)) c.row_at.ensures) c.if-room-total.true
+    measure_short _ _ _ c.args.rows.listed _ _ _ _ c.loop-i.invariant.1 c.loop-i.invariant.0 (omega arith) _ (c.request_width-more.ensures ∙ ap (λ (q : Request). length (request_bytes q)) c.row.ensures) c.if-room-total.true
 
 pub loop-i-preserved : goal.loop-i-preserved
 loop-i-preserved c = (
   omega arith,
-  measure_more _ _ _ c.requires _ _ _ _ c.loop-i.invariant.1 c.loop-i.invariant.0 c.loop-i-test.true _ (c.request_width-more.ensures ∙ ap (λ (q : Request). length (request_bytes q)) c.row_at.ensures),
+  measure_more _ _ _ c.args.rows.listed _ _ _ _ c.loop-i.invariant.1 c.loop-i.invariant.0 (omega arith) _ (c.request_width-more.ensures ∙ ap (λ (q : Request). length (request_bytes q)) c.row.ensures),
 )
 
 pub returns : goal.returns
-returns c = measure_end _ _ _ c.requires _ _ _ _ c.loop-i.invariant.1 c.loop-i.invariant.0 c.loop-i-test.false
+returns c = measure_end _ _ _ c.args.rows.listed _ _ _ _ c.loop-i.invariant.1 c.loop-i.invariant.0 (omega arith)

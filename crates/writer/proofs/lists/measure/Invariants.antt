@@ -2,11 +2,12 @@
 use Prim.Native.Nat.{◌+◌, ◌≤◌}
 use mathlib.Core.Path.{◌≡◌}
 use lib.ListN.{length}
-use Rattle.trace.specs.Writing.{part_bytes, requests_in}
+use Rattle.trace.specs.Writing.{part_bytes}
 use Rattle.trace.proofs.Listing.{rest_at}
+use Rattle.writer.specs.Rows.{requests_of}
 use Rattle.writer.proofs.lists.measure.Given as goal
 
 abbrev pub invariant-loop-i : goal.invariant-loop-i
 invariant-loop-i l =
     (l.total ≤ l.room)
-    × (l.head + length (part_bytes (requests_in l.files l.sizes l.costs)) ≡ l.total + length (part_bytes (rest_at l.files l.sizes l.costs l.i)))
+    × (l.head + length (part_bytes (requests_of l.rows)) ≡ l.total + length (part_bytes (rest_at l.rows.files.now l.rows.sizes.now l.rows.costs.now l.i)))
