@@ -9,7 +9,7 @@ use lib.ListN.{length, get_or}
 use Rattle.amounts.specs.Limits.{lift, no_place, places_most}
 use Rattle.amounts.specs.declared.settings.Settings.{Settings}
 use Rattle.amounts.proofs.Tests.{same, below}
-use Rattle.queue.specs.Queue.{times, Ordered, Readable}
+use Rattle.queue.specs.Queue.{times, Ordered}
 use Rattle.queue.proofs.Totals.{Found, times_found}
 use Rattle.queue.proofs.Index.{times_own, distinct}
 use Rattle.method.specs.Shelf.{Kept, none, kept, Shelf}
@@ -27,7 +27,7 @@ use Rattle.tables.proofs.Shelves.{slot_none, slot_kept, shelf_length, shelf_at}
 use Rattle.tables.proofs.Counting.{sum_below_same, held_together}
 use Rattle.tables.specs.Exact.{Exact}
 use Rattle.totals.specs.Totals.{Numbers}
-use Rattle.weighing.specs.Weighing.{Right, Shelvable, Filed}
+use Rattle.weighing.specs.Weighing.{Right, Filed}
 use Rattle.judge.specs.Judge.{Lent}
 use Rattle.judge.specs.Passes.{Indexable, Index, noted, Stackable, Used, Own, Stamped}
 use Rattle.judge.proofs.Stacking.{noted_none, noted_some}
@@ -54,9 +54,6 @@ module _ (a : Tally) (t : Tables) where
   shelf = shelf_of C t
 
   -- ---- what soundness says to each pass
-
-  pub sound_numbers : Sound a t → Numbers a
-  sound_numbers h = record { few = h.few; low = h.low; agreed = h.agreed }
 
   pub sound_few : Sound a t → n ≤ P
   sound_few h = omega (arith, h.files, (near h).files)
@@ -208,9 +205,6 @@ module _ (a : Tally) (t : Tables) (entry free : List ℕ) (j : Lent a t entry fr
   pub indexable : a.files_kept ≤ a.settings.places.0 → Indexable a.settings a.files_kept t entry
   indexable few = record { few = few; most = places_at_most; place_long = j.long.place; file_long = j.long.file; queue_long = j.long.queue; entry_long = j.entry_long }
 
-  pub shelvable : Numbers a → Shelvable a t
-  shelvable num = record { range = j.range; long = record { queue = t.queue; long = j.long }; few = num.few }
-
   module _ (few : a.files_kept ≤ a.settings.places.0) (entry' : List ℕ) (x : Index a.settings a.files_kept t entry') where
     pub stackable : length entry' ≡ length entry → Stackable a.settings t entry' free
     stackable e = record {
@@ -220,9 +214,6 @@ module _ (a : Tally) (t : Tables) (entry free : List ℕ) (j : Lent a t entry fr
       free_long = j.free_long;
       occupied = λ p l ne. ⊎_elim (λ z. absurd (ne z)) (λ y. subst (Occupied a.settings t) y.1 (x.entries (get_or entry' p 0) y.0)) (x.notes p l);
     }
-
-    pub readable : (keys stamps : List ℕ) → a.settings.places.0 ≤ length keys → a.settings.places.0 ≤ length stamps → Readable t.queue keys stamps a.files_kept
-    readable keys stamps k s = record { long = omega (arith, j.long.queue); keyed = λ i l. omega (arith, (x.entries i l).inside); stamped = λ i l. omega (arith, (x.entries i l).inside) }
 
     pub stamped : Stamped a.files_kept t.queue t.stamp
     stamped = record {

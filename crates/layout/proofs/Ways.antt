@@ -8,10 +8,9 @@ use lib.ListN.{length, take, drop, replicate, length-drop, length-replicate}
 use lib.Seq.{sets-eq, length-sets, take_all, take_at}
 use Rattle.std.specs.Prelude.{Result, Ok, Err}
 use Rattle.amounts.specs.declared.settings.Settings.{Settings}
-use Rattle.amounts.proofs.Tests.{pick_true, pick_false}
+use Rattle.amounts.proofs.Tests.{pick_true}
 use Rattle.card.specs.Card.{done, card_of}
 use Rattle.card.specs.declared.Refusal.{Refusal}
-use Rattle.card.specs.declared.Refusal.TheVariants.{Room}
 use Rattle.trace.specs.Reading.{Read, good, stop, read_of, Opened, opened, shut, settings_of}
 use Rattle.trace.specs.Stores.{Roomy, Laid}
 use Rattle.trace.specs.Cards.{opening_card, opening_answer}
@@ -48,24 +47,11 @@ own_held s part g p c = record { given = g; places = p; catalogue = c; events = 
 -- ---- settings, and the requests after them
 
 module _ (s : Settings) (part : List ℕ) where
-  pub places_beyond : own_places < s.places.0 → of_file (opened s part) ≡ refused_line 2
-  places_beyond h = rw (lt-leb s.places.0 own_places h)
-
-  pub catalogue_beyond : s.places.0 ≤ own_places → own_catalogue < s.catalogue.0 → of_file (opened s part) ≡ refused_line 2
-  catalogue_beyond h k = rw (le-leb s.places.0 own_places h, lt-leb s.catalogue.0 own_catalogue k)
-
   module _ (told : List ℕ) (h : OwnSized s part told) where
     within : of_file (opened s part) ≡ of_read s (read_of (length part) s.catalogue.0 part)
     within = rw (le-leb s.places.0 own_places h.places, le-leb s.catalogue.0 own_catalogue h.catalogue)
 
     module _ (r : Carried) (told' : List ℕ) (p : Ran s part told r told') where
-      pub ran_refused : (x : Refusal) → r.answer ≡ Err x → of_file (opened s part) ≡ refused_line (card_of x).number
-      ran_refused x e = within ∙ go (read_of (length part) s.catalogue.0 part) p.ran
-        where
-          go : (z : Read) → RanOn s told r told' z → of_read s z ≡ refused_line (card_of x).number
-          go (stop y) q = let k : y ≡ x = cc in ap (λ (w : Refusal). refused_line (card_of w).number) k
-          go (good qs) q = let z : ◌≡◌ {A = ℕ} 0 1 = cc q.0 in absurd (omega arith)
-
       -- the page of what a run that is done has left
       pub record Paged (count : ℕ) : Type 0 where
         pub many : count ≤ length told'
@@ -126,11 +112,6 @@ module _ (trace : List ℕ) where
 -- ---- the answer
 
 module _ (trace text text' : List ℕ) (count : ℕ) (p : Laid (sheet_of trace) 0 text text' count) (a : Ample text) (out : List ℕ) where
-  pub sheet_short : length out < count → Sheeted trace out (Err Room) out
-  sheet_short h =
-      let e = lt-leb (length (sheet_of trace)) (length out) (omega (arith, h, p.ends)) in
-      record { answer = sym (pick_false _ _ e); buffer = sym (pick_false _ _ e) }
-
   taken : take count text' ≡ sheet_of trace
   taken = take_laid (sheet_of trace) text text' count (omega (arith, sheet_fits trace, a.room)) p
 

@@ -12,7 +12,7 @@ use lib.Seq.{sets, set_comm}
 use lib.Dec.{ltb}
 use Rattle.amounts.specs.Limits.{pick, word}
 use Rattle.amounts.proofs.Tests.{below}
-use Rattle.trace.specs.Stores.{Roomy, Laid}
+use Rattle.trace.specs.Stores.{Laid}
 use Rattle.trace.proofs.Laying.{laid_then}
 use Rattle.lines.specs.Decimal.{digits, decimal}
 
@@ -83,9 +83,6 @@ some_decimal n = some 19 n
 pub longer_decimal : (n : ℕ) → 10 ≤ n → n < 10 ^ 20 → length (decimal n) ≡ length (decimal (n / 10)) + 1
 longer_decimal n h l = ap length (decimal_more n h l) ∙ length-append (decimal (n / 10)) ((48 + n % 10) ∷ []) ∙ omega arith
 
-pub counting_first : (n : ℕ) → n < word → Counting n n 1
-counting_first n h = record { small = omega arith; same = refl }
-
 module _ (n left count : ℕ) (c : Counting n left count) where
   pub counting_few : count ≤ 20
   counting_few = omega (arith, c.same, decimal_short n, some_decimal left)
@@ -109,9 +106,6 @@ pub storing_first : (n at i : ℕ) (out : List ℕ) → n < word → i + 1 ≡ a
 storing_first n at i out h e = record { small = omega arith; same = refl; ends = e; few = omega arith; long = refl }
 
 module _ (n at : ℕ) (out₀ : List ℕ) (left i : ℕ) (out : List ℕ) (p : Storing n at out₀ left i out) where
-  pub storing_room : Roomy (decimal n) at out₀ → i < length out
-  storing_room h = omega (arith, h.room, p.few, p.long)
-
   pub storing_on : 9 < left → 1 ≤ i
   storing_on h = omega (arith, p.ends, longer_decimal left h p.small, some_decimal (left / 10))
 

@@ -18,9 +18,6 @@ pub laid_long : (bs : List ℕ) (at : ℕ) (out out' : List ℕ) (r : ℕ) → L
 laid_long bs at out out' r p = ap length p.placed ∙ length-sets out at bs
 
 -- the same bytes, by another name
-pub roomy_as : {bs bs' : List ℕ} {at : ℕ} {out : List ℕ} → bs ≡ bs' → Roomy bs at out → Roomy bs' at out
-roomy_as {bs} {bs'} {at} {out} e r = subst (λ (x : List ℕ). Roomy x at out) e r
-
 pub laid_as : {bs bs' : List ℕ} {at : ℕ} {out out' : List ℕ} {r : ℕ} → bs ≡ bs' → Laid bs' at out out' r → Laid bs at out out' r
 laid_as {bs} {bs'} {at} {out} {out'} {r} e p = subst (λ (x : List ℕ). Laid x at out out' r) (sym e) p
 
@@ -65,9 +62,6 @@ module _ (w : List ℕ) (n end at : ℕ) (out : List ℕ) (r : Roomy (item w n e
 
       pub item_inside : at₂ + 1 ≤ length out
       item_inside = omega (arith, item_end, length-set out₂ at₂ end, laid_long (item w n end) at out _ _ item_laid)
-
-      pub item_long : length (set out₂ at₂ end) ≡ length out
-      item_long = laid_long (item w n end) at out _ _ item_laid
 
 -- document 01, "Event list": kind and file are read back from kind × 32,768 + file
 pub event_read : (k f : ℕ) → f < catalogue_most → event_line (event k f) ≡ item (kind_word k) f line_feed

@@ -1,21 +1,17 @@
--- The answer that is due to a tally: the ways to it, and that it is the one answer. Assumes nothing.
-use mathlib.Core.Path.{◌≡◌, refl, ap, sym, ◌∙◌}
+-- The answer that is due to a tally: when it has both ratios, and that it is the one answer. Assumes nothing.
+use mathlib.Core.Path.{◌≡◌, sym, ◌∙◌}
 use mathlib.Core.List.{[]}
-use Rattle.std.proofs.Common.{Ok, Err}
 use mathlib.Core.Logic.{⊎_elim}
 use Prim.Native.Nat.{ℕ, ◌≤◌, ◌<◌}
 use native.Mathlib.Omega.{arith}
-use lib.Ieee.{Float}
 use Rattle.amounts.proofs.Tests.{same, below}
 use Rattle.card.specs.Card.{refused}
-use Rattle.card.specs.declared.Refusal.TheVariants.{NoRequests, Unsound, Inexact}
 use Rattle.tables.specs.Tables.{Tables}
 use Rattle.tables.specs.Sound.{Counted, Sound}
 use Rattle.tables.specs.declared.tally.Tally.{Tally}
 use Rattle.tables.proofs.SoundDecided.{counted_decided}
-use Rattle.ratios.specs.Quotient.{exact_most, quotient, Divided}
-use Rattle.ratios.specs.Ratios.{ratios_of, Rateable, RatioCard, giving, refusing, ratio_card, Rates}
-use Rattle.ratios.specs.declared.answer.Ratios.{Ratios}
+use Rattle.ratios.specs.Quotient.{exact_most}
+use Rattle.ratios.specs.Ratios.{ratios_of, Rateable, RatioCard, giving, refusing, Rates}
 
 some : {n : ℕ} → (n ≡ 0 → ⊥) → 1 ≤ n
 some {n} ne = omega arith
@@ -28,26 +24,6 @@ rateable a n h k =
       hits = record { within = omega (arith, h.counts.outcomes); some = n; exact = omega (arith, h.few) };
       bytes = record { within = b.hit_asked; some = omega (arith, b.asked_least); exact = k };
     }
-
--- the two quotients
-pub both_ratios : {a n b m : ℕ} {h k : Float} → Divided a n h → Divided b m k → ◌≡◌ {A = Ratios} (record { hits = h; bytes = k }) (record { hits = quotient a n; bytes = quotient b m })
-both_ratios p q = λ i. record { hits = p.rounded i; bytes = q.rounded i }
-
--- ---- the ways through
-
-module _ (a : Tally) where
-  pub rates_none : a.requests ≡ 0 → Rates a (ratio_card (Err NoRequests))
-  rates_none e = record { none = λ _. refl; unsound = λ n. absurd (omega arith); inexact = λ n. absurd (omega arith); rated = λ n. absurd (omega arith) }
-
-  pub rates_unsound : (a.requests ≡ 0 → ⊥) → (Counted a → ⊥) → Rates a (ratio_card (Err Unsound))
-  rates_unsound ne nc = record { none = λ e. absurd (ne e); unsound = λ _ _. refl; inexact = λ _ h. absurd (nc h); rated = λ _ h. absurd (nc h) }
-
-  module _ (ne : a.requests ≡ 0 → ⊥) (h : Counted a) where
-    pub rates_inexact : exact_most < a.bytes_asked.0 → Rates a (ratio_card (Err Inexact))
-    rates_inexact k = record { none = λ e. absurd (ne e); unsound = λ _ nc. absurd (nc h); inexact = λ _ _ _. refl; rated = λ _ _ l. absurd (omega arith) }
-
-    pub rates_done : {x : Ratios} → a.bytes_asked.0 ≤ exact_most → x ≡ ratios_of a → Rates a (ratio_card (Ok x))
-    rates_done k e = record { none = λ z. absurd (ne z); unsound = λ _ nc. absurd (nc h); inexact = λ _ _ l. absurd (omega arith); rated = λ _ _ _. ap giving e }
 
 -- ---- one answer
 

@@ -1,44 +1,20 @@
 -- A run carried on in words, by the ways through it. Assumes nothing.
-use mathlib.Core.Path.{◌≡◌, refl, ap, sym, ◌∙◌, subst}
+use mathlib.Core.Path.{◌≡◌, refl, subst}
 use mathlib.Core.Bool.{true, false}
 use mathlib.Core.List.{List}
 use Prim.Native.Nat.{ℕ}
-use Rattle.std.specs.Prelude.{Result, Ok, Err}
+use Rattle.std.specs.Prelude.{Result}
 use Rattle.amounts.specs.Limits.{is_unit}
 use Rattle.card.specs.Card.{card_of}
 use Rattle.card.specs.declared.Refusal.{Refusal}
 use Rattle.card.specs.declared.Refusal.TheVariants.{Setting, Short}
-use Rattle.trace.specs.Cards.{answer_card}
-use Rattle.trace.specs.Promise.{over}
 use Rattle.tables.specs.Tables.{Tables}
-use Rattle.tables.specs.Start.{words}
 use Rattle.tables.specs.declared.tally.Tally.{Tally}
 use Rattle.parts.specs.declared.Ended.{Ended}
 use Rattle.replay.specs.Carrying.{carried, Carries}
 use Rattle.words.specs.Words.{answer_word, tally_in}
 use Rattle.snailstamp.specs.Steps.{PutEnded}
-use Rattle.snailstamp.specs.Run.{enough, worded, carried_words, CarriedWords}
-
--- the word and the words of an answer that is known
-pub put_ended_err : {x : Result Ended Refusal} {w : List ℕ} {r : ℕ} (y : Refusal) → x ≡ Err y → r ≡ answer_word (card_of y) → PutEnded x w r w
-put_ended_err {w = w} y q e =
-    record {
-      put =
-          λ a. record {
-            answer = e ∙ ap (λ (z : Result Ended Refusal). answer_word (answer_card (carried a z).answer)) (sym q);
-            tally = ap (λ (z : Result Ended Refusal). carried_words (carried a z).answer (carried a z).tally w) (sym q);
-          };
-    }
-
-pub put_ended_ok : {x : Result Ended Refusal} {w : List ℕ} {r : ℕ} {w' : List ℕ} (y : Ended) → x ≡ Ok y → r ≡ answer_word (answer_card (Ok y.events)) → w' ≡ over (words y.tally) w → PutEnded x w r w'
-put_ended_ok {w = w} y q e v =
-    record {
-      put =
-          λ a. record {
-            answer = e ∙ ap (λ (z : Result Ended Refusal). answer_word (answer_card (carried a z).answer)) (sym q);
-            tally = v ∙ ap (λ (z : Result Ended Refusal). carried_words (carried a z).answer (carried a z).tally w) (sym q);
-          };
-    }
+use Rattle.snailstamp.specs.Run.{enough, worded, CarriedWords}
 
 module _ (unit : ℕ) (part w : List ℕ) (t : Tables) (told : List ℕ) (r : ℕ) where
   pub carried_setting : is_unit unit ≡ false → r ≡ answer_word (card_of Setting) → CarriedWords unit part w t told r w t told

@@ -1,22 +1,21 @@
 -- Ratios in a word and doubles, by the ways through them. Assumes nothing.
-use mathlib.Core.Path.{◌≡◌, refl, ap, sym, ◌∙◌, subst}
-use mathlib.Core.Bool.{true, false}
+use mathlib.Core.Path.{◌≡◌, refl, ap, sym, ◌∙◌}
+use mathlib.Core.Bool.{false}
 use mathlib.Core.List.{List, []}
-use Prim.Native.Nat.{ℕ, ◌≤◌, ◌<◌}
+use Prim.Native.Nat.{ℕ, ◌≤◌}
 use native.Mathlib.Omega.{arith}
 use lib.ListN.{length}
 use lib.Ieee.{Float}
-use borrow.Author.Tests.{le-leb, lt-leb}
-use Rattle.std.specs.Prelude.{Result, Ok, Err}
-use Rattle.amounts.proofs.Tests.{pick_true, pick_false}
+use borrow.Author.Tests.{le-leb}
+use Rattle.std.specs.Prelude.{Result, Ok}
+use Rattle.amounts.proofs.Tests.{pick_true}
 use Rattle.card.specs.Card.{Card, refused, card_of}
 use Rattle.card.specs.declared.Refusal.{Refusal}
-use Rattle.card.specs.declared.Refusal.TheVariants.{Short, Room}
+use Rattle.card.specs.declared.Refusal.TheVariants.{Short}
 use Rattle.trace.specs.Promise.{over}
-use Rattle.tables.specs.declared.tally.Tally.{Tally}
-use Rattle.ratios.specs.Ratios.{RatioCard, doubles_of, giving, refusing, ratio_card, Rates}
+use Rattle.ratios.specs.Ratios.{RatioCard, doubles_of, giving, refusing, ratio_card}
 use Rattle.ratios.specs.declared.answer.Ratios.{Ratios}
-use Rattle.words.specs.Words.{word_of, answer_word, ratio_doubles, tally_in}
+use Rattle.words.specs.Words.{word_of, answer_word, ratio_doubles}
 use Rattle.snailstamp.specs.Run.{enough}
 use Rattle.snailstamp.specs.Rates.{fitted, PutRated, RatioWords}
 
@@ -29,20 +28,10 @@ module _ (l : List Float) where
   fits_giving : (x : Ratios) → ratio_doubles ≤ length l → fitted l (giving x) ≡ giving x
   fits_giving x h = pick_true _ _ (le-leb 2 (length l) h)
 
-  no_room : (x : Ratios) → length l < ratio_doubles → fitted l (giving x) ≡ refusing (refused 6 [])
-  no_room x h = pick_false _ _ (lt-leb 2 (length l) h)
-
   put : {x y : RatioCard} {r : ℕ} {l' : List Float} → fitted l x ≡ y → r ≡ answer_word y.card → l' ≡ over y.doubles l → PutRated x l r l'
   put e a b = record { answer = a ∙ ap (λ (z : RatioCard). answer_word z.card) (sym e); list = b ∙ ap (λ (z : RatioCard). over z.doubles l) (sym e) }
 
   -- ---- the ways through `put_rated`
-
-  module _ {x : Result Ratios Refusal} {r : ℕ} where
-    pub put_refused : (y : Refusal) → x ≡ Err y → r ≡ answer_word (card_of y) → PutRated (ratio_card x) l r l
-    put_refused y q e = put (ap (λ (z : Result Ratios Refusal). fitted l (ratio_card z)) q ∙ fits_refusing (card_of y)) e refl
-
-    pub put_no_room : (y : Ratios) → x ≡ Ok y → length l < ratio_doubles → r ≡ answer_word (card_of Room) → PutRated (ratio_card x) l r l
-    put_no_room y q h e = put (ap (λ (z : Result Ratios Refusal). fitted l (ratio_card z)) q ∙ no_room y h) e refl
 
   pub put_done : {x : Result Ratios Refusal} {l' : List Float} (y : Ratios) → x ≡ Ok y → ratio_doubles ≤ length l → l' ≡ over (doubles_of y) l → PutRated (ratio_card x) l 0 l'
   unfolding answer_word word_of
@@ -53,6 +42,3 @@ module _ (l : List Float) where
   module _ (w : List ℕ) (r : ℕ) where
     pub ratios_few : enough w ≡ false → r ≡ answer_word (card_of Short) → RatioWords w l r l
     ratios_few h e = record { due = refusing (refused 2 []); rates = rw h refl; put = put (fits_refusing (refused 2 [])) e refl }
-
-    pub ratios_rated : (l' : List Float) (a : Tally) (x : Result Ratios Refusal) → enough w ≡ true → a ≡ tally_in w → Rates a (ratio_card x) → PutRated (ratio_card x) l r l' → RatioWords w l r l'
-    ratios_rated l' a x h q p k = record { due = ratio_card x; rates = rw h (subst (λ (b : Tally). Rates b (ratio_card x)) q p); put = k }

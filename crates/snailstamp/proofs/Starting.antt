@@ -18,16 +18,8 @@ use Rattle.tables.specs.Start.{words, long, start_card, start_answer, start_tabl
 use Rattle.tables.specs.declared.tally.Tally.{Tally}
 use Rattle.tables.proofs.Twins.{fresh_done}
 use Rattle.words.specs.Words.{word_of, answer_word}
-use Rattle.snailstamp.specs.Steps.{started_word, started_words, PutStarted}
+use Rattle.snailstamp.specs.Steps.{PutStarted}
 use Rattle.snailstamp.specs.Run.{enough, fresh_card, fresh_words, fresh_tables, FreshWords}
-
--- ---- the words of a fresh start
-
-pub put_refused : {x : Result Tally Refusal} {w : List ℕ} {r : ℕ} (y : Refusal) → x ≡ Err y → r ≡ answer_word (card_of y) → PutStarted x w r w
-put_refused {w = w} y q e = record { answer = e ∙ ap started_word (sym q); tally = ap (λ (z : Result Tally Refusal). started_words z w) (sym q) }
-
-pub put_done : {x : Result Tally Refusal} {w w' : List ℕ} (a : Tally) → x ≡ Ok a → w' ≡ over (words a) w → PutStarted x w 0 w'
-put_done {w = w} a q v = record { answer = ap started_word (sym q); tally = v ∙ ap (λ (z : Result Tally Refusal). started_words z w) (sym q) }
 
 -- ---- the ways through
 

@@ -2,11 +2,11 @@
 use mathlib.Core.Path.{◌≡◌, refl, ap, sym, ◌∙◌, subst}
 use mathlib.Core.Bool.{Bool, true, false}
 use mathlib.Core.List.{List, [], ◌∷◌, ◌++◌}
-use Prim.Native.Nat.{ℕ, ◌≤◌, ◌<◌}
+use Prim.Native.Nat.{ℕ, ◌≤◌}
 use native.Mathlib.Omega.{arith}
 use lib.Dec.{leb}
 use lib.ListN.{length, take, get_or}
-use borrow.Author.Tests.{le-leb, lt-leb}
+use borrow.Author.Tests.{le-leb}
 use Rattle.std.specs.Prelude.{Result, Ok, Err}
 use Rattle.amounts.specs.Limits.{pick}
 use Rattle.amounts.specs.Requests.{Request}
@@ -15,21 +15,12 @@ use Rattle.card.specs.Card.{Card, done, card_of}
 use Rattle.card.specs.declared.Refusal.{Refusal}
 use Rattle.card.specs.declared.Refusal.TheVariants.{Room}
 use Rattle.trace.specs.Reading.{Read, good, stop, Opened, opened, shut, settings_of, read_of, file_read, rows}
-use Rattle.trace.specs.Writing.{Put, written}
-use Rattle.trace.specs.Cards.{answer_card, file_card, numbers, read_card, settings_read, put_card}
-use Rattle.trace.specs.Promise.{over, Over, room, ReadPart, ReadFile, Wrote}
+use Rattle.trace.specs.Cards.{answer_card, file_card, numbers, read_card, settings_read}
+use Rattle.trace.specs.Promise.{over, Over, room, ReadFile}
 use Rattle.card.proofs.Cases.{done_not_refused}
 use Rattle.words.specs.Words.{answer_word}
-use Rattle.snailstamp.specs.Steps.{read_word, read_words, PutRead, Unread}
-use Rattle.snailstamp.specs.Traces.{in_place, file_taken, ReadFileAs, ReadFileWords, ReadPartWords, WroteWords}
-
--- ---- a further part, and the writers
-
-pub part_words : {c : ℕ} {part f s d : List ℕ} {a : Result ℕ Refusal} {f' s' d' : List ℕ} {r : ℕ} → ReadPart c part f s d a f' s' d' → r ≡ answer_word (answer_card a) → ReadPartWords c part f s d r f' s' d'
-part_words h e = record { answer = e ∙ ap answer_word h.answer; lists = h.lists }
-
-pub wrote_words : {p p' : Put} {o : List ℕ} {a : Result ℕ Refusal} {o' : List ℕ} {r : ℕ} → p ≡ p' → Wrote p o a o' → r ≡ answer_word (answer_card a) → WroteWords p' o r o'
-wrote_words {o = o} q h e = record { answer = e ∙ ap answer_word (h.answer ∙ ap put_card q); buffer = h.buffer ∙ ap (λ (x : Put). over (written x) o) q }
+use Rattle.snailstamp.specs.Steps.{PutRead, Unread}
+use Rattle.snailstamp.specs.Traces.{in_place, file_taken, ReadFileAs, ReadFileWords}
 
 -- ---- a file whose settings have no room
 
@@ -53,19 +44,7 @@ module _ (trace : List ℕ) where
 
 -- ---- a file
 
-pub read_refused : {x : Result (Settings × ℕ) Refusal} {w : List ℕ} {r : ℕ} (y : Refusal) → x ≡ Err y → r ≡ answer_word (card_of y) → PutRead x w r w
-read_refused {w = w} y q e = record { answer = e ∙ ap read_word (sym q); settings = ap (λ (z : Result (Settings × ℕ) Refusal). read_words z w) (sym q) }
-
-pub read_done : {x : Result (Settings × ℕ) Refusal} {w : List ℕ} {r : ℕ} {w' : List ℕ} (st : Settings) (n : ℕ) → x ≡ Ok (st, n) → r ≡ answer_word (answer_card (Ok n)) → w' ≡ over (numbers st) w
-    → PutRead x w r w'
-read_done {w = w} st n q e v = record { answer = e ∙ ap read_word (sym q); settings = v ∙ ap (λ (z : Result (Settings × ℕ) Refusal). read_words z w) (sym q) }
-
 module _ (trace w f s d : List ℕ) where
-  pub file_unread : (x : Refusal) → length w < 5 → Unread trace x → ReadFileWords trace w f s d (answer_word (card_of x)) w f s d
-  file_unread x h u =
-      subst (λ (z : Read). ReadFileAs z trace w f s d (answer_word (card_of x)) w f s d) (sym (u.refused w (room f s d) (lt-leb 5 (length w) h)))
-      (record { answer = refl; settings = refl; lists = record { in_files = refl; in_sizes = refl; in_costs = refl } })
-
   in_place_lem : (z : Read) → in_place true z ≡ z
   in_place_lem (good l) = refl
   in_place_lem (stop x) = refl

@@ -1,11 +1,8 @@
 -- Words: what an answer's word keeps, and that a tally is found again in its words. Assumes nothing.
 use mathlib.Core.Path.{◌≡◌, refl}
 use mathlib.Core.List.{List}
-use Prim.Native.Nat.{ℕ, ◌/◌, ◌%◌, ◌≤◌, ◌<◌}
-use native.Mathlib.Nat.{lt_of_lt_of_le}
+use Prim.Native.Nat.{ℕ, ◌/◌, ◌%◌, ◌<◌}
 use native.Mathlib.Omega.{arith}
-use lib.ListN.{length}
-use lib.Seq.{sets, lt-length-sets}
 use Rattle.card.specs.Card.{Card, value_of, card_of}
 use Rattle.card.specs.declared.Refusal.{Refusal}
 use Rattle.card.proofs.Cases.{on_card}
@@ -29,10 +26,6 @@ number_in c h = omega arith
 pub value_in : (c : Card) → c.number < 256 → value_of c < 72057594037927936 → answer_word c / 256 ≡ value_of c
 unfolding answer_word word_of
 value_in c h k = omega arith
-
--- an index below so many that a list is known to have stays inside it after stores
-pub inside : {A : Type 0} (n k : ℕ) (l vs : List A) → k < n → n ≤ length l → k < length (sets l 0 vs)
-inside n k l vs h m = lt-length-sets l 0 vs (lt_of_lt_of_le h m)
 
 -- the words of a tally stand for it, whatever words follow: the next call finds the tally that the last one left
 pub tally_over : (a : Tally) (w : List ℕ) → tally_in (over (words a) w) ≡ a
