@@ -68,19 +68,20 @@ pub fn admit(
 {
     let k = a.inflation + product(1, z, w);
     let most = limit(a.settings.policy, k);
-    let room = make_room(r, a, z, most, key, stamp, queue, entry);
-    if room.low {
-        let n = a.files_kept as usize;
-        let left = room.left;
-        put_back(n, left, key, stamp, queue, entry);
-        let outcome = Outcome::Passed(Pass::LowKey);
-        return Untold {
-            outcome,
-            tally: counted(a, outcome, z, w),
-            due: at,
-        };
+    match make_room(r, a, z, most, key, stamp, queue, entry) {
+        Ok(room) => enter(
+            a, f, z, w, room, r, key, stamp, queue, entry, free, events, at,
+        ),
+        Err(low) => {
+            let n = a.files_kept as usize;
+            let left = low.left;
+            put_back(n, left, key, stamp, queue, entry);
+            let outcome = Outcome::Passed(Pass::LowKey);
+            Untold {
+                outcome,
+                tally: counted(a, outcome, z, w),
+                due: at,
+            }
+        }
     }
-    enter(
-        a, f, z, w, room, r, key, stamp, queue, entry, free, events, at,
-    )
 }

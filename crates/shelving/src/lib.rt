@@ -9,4 +9,4 @@ mod room;
 pub use evict::{drop_behind, tell};
 pub use keeping::keep;
 pub use records::Kept;
-pub use room::{Room, make_room, put_back};
+pub use room::{Low, Room, make_room, put_back};
