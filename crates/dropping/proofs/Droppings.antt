@@ -73,6 +73,9 @@ module _ {a : Tally} {p : ℕ} {t : Tables} {entry free : List ℕ} (h : Standin
   pub entered : p < length entry
   entered = omega (arith, inside, h.running.entry_long)
 
+  pub narrow : p < 65536
+  narrow = omega (arith, inside, live.places)
+
   pub holding : {at : ℕ} → at ≡ get_or entry p 0 → Holding t.queue entry t.key t.stamp n at
   holding e = record { whole = live.whole; inside = omega (arith, e, held.0) }
 
