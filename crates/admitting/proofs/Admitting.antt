@@ -24,7 +24,7 @@ use Rattle.tables.proofs.Ranges.{bounded}
 use Rattle.tables.proofs.Shelves.{shelf_length, shelf_queue}
 use Rattle.shelving.specs.Taking.{Aside, aside}
 use Rattle.shelving.specs.Live.{Live}
-use Rattle.shelving.specs.Room.{room_for, Roomless, Made, Lowest, none, Apiece, Again}
+use Rattle.shelving.specs.Room.{room_for, Roomless, Made, IsLow, none, Apiece, Again}
 use Rattle.shelving.specs.Evicting.{with_queue, without}
 use Rattle.shelving.specs.declared.room.Room.{Room}
 use Rattle.shelving.specs.declared.room.Low.{Low}
@@ -132,9 +132,9 @@ module _ {a : Tally} {q : Request} {t : Tables} {entry free events : List ℕ} {
   module _ {k : ℕ} (is-k : k ≡ limit) where
     -- ---- where the newcomer is low: it is put back
 
-    module _ {queue₁ entry₁ : List ℕ} {r : Low} (y₀ : Lowest a q.size k t.size t.key t.stamp t.queue entry queue₁ entry₁ r) where
-      y : Lowest a q.size limit t.size t.key t.stamp t.queue entry queue₁ entry₁ r
-      y = subst (λ (x : ℕ). Lowest a q.size x t.size t.key t.stamp t.queue entry queue₁ entry₁ r) is-k y₀
+    module _ {queue₁ entry₁ : List ℕ} {r : Low} (y₀ : IsLow a q.size k t.size t.key t.stamp t.queue entry queue₁ entry₁ r) where
+      y : IsLow a q.size limit t.size t.key t.stamp t.queue entry queue₁ entry₁ r
+      y = subst (λ (x : ℕ). IsLow a q.size x t.size t.key t.stamp t.queue entry queue₁ entry₁ r) is-k y₀
 
       lowly : Taken a.settings a.files_kept t entry q.size limit a.inflation.0 a.bytes_kept.0 live
           (meetings.sound h.meetable).apart h.meetable.running.sound.files h.meetable.running.sound.bytes queue₁ entry₁ r.left

@@ -22,20 +22,20 @@ make_room-requires c = roomless c.requires
 
 pub put_back-requires : goal.put_back-requires
 put_back-requires c =
-    let most = limit_is c.args.a c.args.z.0 c.args.w.0 c.limit-most.ensures c.add-k.ensures c.product.ensures in
+    let most = limit_is c.args.a c.args.q.size.0 c.args.q.cost.0 c.limit-most.ensures c.add-k.ensures c.product.ensures in
     apiece c.requires most c.in-Err.ensures
 
 pub returns-in-Err-clause-met : goal.returns-in-Err-clause-met
 returns-in-Err-clause-met c =
-    let most = limit_is c.args.a c.args.z.0 c.args.w.0 c.limit-most.ensures c.add-k.ensures c.product.ensures in
+    let most = limit_is c.args.a c.args.q.size.0 c.args.q.cost.0 c.limit-most.ensures c.add-k.ensures c.product.ensures in
     lows c.requires most c.in-Err.ensures c.put_back.ensures c.counted.ensures
 
 pub enter-requires : goal.enter-requires
 enter-requires c =
-    let most = limit_is c.args.a c.args.z.0 c.args.w.0 c.limit-most.ensures c.add-k.ensures c.product.ensures in
+    let most = limit_is c.args.a c.args.q.size.0 c.args.q.cost.0 c.limit-most.ensures c.add-k.ensures c.product.ensures in
     enterable c.requires most c.in-Ok.ensures
 
 pub returns-in-Ok-clause-met : goal.returns-in-Ok-clause-met
 returns-in-Ok-clause-met c =
-    let most = limit_is c.args.a c.args.z.0 c.args.w.0 c.limit-most.ensures c.add-k.ensures c.product.ensures in
+    let most = limit_is c.args.a c.args.q.size.0 c.args.q.cost.0 c.limit-most.ensures c.add-k.ensures c.product.ensures in
     admitted c.requires most c.in-Ok.ensures c.enter.ensures.met
