@@ -24,9 +24,10 @@ use Rattle.tables.proofs.Ranges.{bounded}
 use Rattle.tables.proofs.Shelves.{shelf_length, shelf_queue}
 use Rattle.shelving.specs.Taking.{Aside, aside}
 use Rattle.shelving.specs.Live.{Live}
-use Rattle.shelving.specs.Room.{room_for, Roomless, Roomed, none, Apiece, Again}
+use Rattle.shelving.specs.Room.{room_for, Roomless, Made, IsLow, none, Apiece, Again}
 use Rattle.shelving.specs.Evicting.{with_queue, without}
 use Rattle.shelving.specs.declared.room.Room.{Room}
+use Rattle.shelving.specs.declared.room.Low.{Low}
 use Rattle.shelving.proofs.MakingRoom.{Newest, admit₁, admit₂}
 use Rattle.shelving.proofs.Lives.{live_same}
 use Rattle.shelving.proofs.Popping.{Stopped, stopped, Taken, taken, aside_without}
@@ -128,23 +129,20 @@ module _ {a : Tally} {q : Request} {t : Tables} {entry free events : List ℕ} {
 
   -- ---- what was set aside, up to the limit k
 
-  module _ {k : ℕ} (is-k : k ≡ limit) {r : Room} {queue₁ entry₁ : List ℕ} (y₀ : Roomed a q.size k t.size t.key t.stamp t.queue entry queue₁ entry₁ r) where
-    abbrev t₁ : Tables
-    t₁ = with_queue queue₁ t
-
-    y : Roomed a q.size limit t.size t.key t.stamp t.queue entry queue₁ entry₁ r
-    y = subst (λ (x : ℕ). Roomed a q.size x t.size t.key t.stamp t.queue entry queue₁ entry₁ r) is-k y₀
-
+  module _ {k : ℕ} (is-k : k ≡ limit) where
     -- ---- where the newcomer is low: it is put back
 
-    module _ (e : r.low ≡ true) where
+    module _ {queue₁ entry₁ : List ℕ} {r : Low} (y₀ : IsLow a q.size k t.size t.key t.stamp t.queue entry queue₁ entry₁ r) where
+      y : IsLow a q.size limit t.size t.key t.stamp t.queue entry queue₁ entry₁ r
+      y = subst (λ (x : ℕ). IsLow a q.size x t.size t.key t.stamp t.queue entry queue₁ entry₁ r) is-k y₀
+
       lowly : Taken a.settings a.files_kept t entry q.size limit a.inflation.0 a.bytes_kept.0 live
           (meetings.sound h.meetable).apart h.meetable.running.sound.files h.meetable.running.sound.bytes queue₁ entry₁ r.left
-      lowly = taken _ _ _ _ _ _ _ _ live _ _ _ y.popped y.whole (y.low e).0 (y.low e).1 (y.low e).2
+      lowly = taken _ _ _ _ _ _ _ _ live _ _ _ y.left.popped y.left.whole y.full y.some y.above
 
       pub apiece : Apiece queue₁ entry₁ t.key t.stamp a.files_kept r.left
       apiece =
-          let v : Live a.settings a.files_kept r.left t₁ entry₁ = lowly.live in
+          let v : Live a.settings a.files_kept r.left (with_queue queue₁ t) entry₁ = lowly.live in
           record {
             whole = v.whole;
             part = v.part;
@@ -161,27 +159,33 @@ module _ {a : Tally} {q : Request} {t : Tables} {entry free events : List ℕ} {
           → Met a t events at (admits a q t) (record { outcome = Passed LowKey; tally = b; due = at }) (with_queue queue₂ t) entry₂ free events
       lows {queue₂} {entry₂} g tl =
           let u : Tables = with_queue queue₂ t in
-          let v : Live a.settings a.files_kept r.left t₁ entry₁ = lowly.live in
+          let v : Live a.settings a.files_kept r.left (with_queue queue₁ t) entry₁ = lowly.live in
           let l = v.long in
           let settled : Live a.settings a.files_kept a.files_kept u entry₂ =
-          live_same a.settings a.files_kept r.left t₁ u entry₁ entry₂ v refl refl
+          live_same a.settings a.files_kept r.left (with_queue queue₁ t) u entry₁ entry₂ v refl refl
           (λ p _. record { file = refl; size = refl; cost = refl; freq = refl; key = refl; stamp = refl }) a.files_kept (omega arith)
           (record { place = l.place; file = l.file; size = l.size; cost = l.cost; freq = l.freq; key = l.key; stamp = l.stamp; queue = omega (arith, l.queue, g.apart.long) })
           g.apart.entries g.held g.apart.past g.whole in
           let past : drop a.settings.places.0 queue₂ ≡ drop a.settings.places.0 t.queue =
-          drop_same t.queue queue₂ a.files_kept a.settings.places.0 (g.apart.long ∙ y.apart.long) live.few (λ i b. g.apart.past i b ∙ y.apart.past i b) in
+          drop_same t.queue queue₂ a.files_kept a.settings.places.0 (g.apart.long ∙ y.left.apart.long) live.few (λ i b. g.apart.past i b ∙ y.left.apart.past i b) in
           meetings.passes h.meetable LowKey (low_as lowly.low) queue₂ entry₂ settled past tl
 
     -- ---- where there is room: it is evicted
 
-    module _ (e : r.low ≡ false) where
+    module _ {queue₁ entry₁ : List ℕ} {r : Room} (y₀ : Made a q.size k t.size t.key t.stamp t.queue entry queue₁ entry₁ r) where
+      abbrev t₁ : Tables
+      t₁ = with_queue queue₁ t
+
+      made_room : Made a q.size limit t.size t.key t.stamp t.queue entry queue₁ entry₁ r
+      made_room = subst (λ (x : ℕ). Made a q.size x t.size t.key t.stamp t.queue entry queue₁ entry₁ r) is-k y₀
+
       stays : Stopped a.settings a.files_kept t entry q.size limit a.inflation.0 a.bytes_kept.0 live
           (meetings.sound h.meetable).apart h.meetable.running.sound.files h.meetable.running.sound.bytes queue₁ entry₁
           r.left r.inflation.0 r.bytes.0
-      stays = stopped _ _ _ _ _ _ _ _ live _ _ _ y.popped (y.room e)
+      stays = stopped _ _ _ _ _ _ _ _ live _ _ _ made_room.left.popped made_room.room
 
       has_room : (r.bytes.0 + q.size ≤ a.settings.capacity.0) × (r.left + 1 ≤ a.settings.places.0)
-      has_room = room_true a.settings.capacity.0 a.settings.places.0 r.bytes.0 r.left q.size (y.room e)
+      has_room = room_true a.settings.capacity.0 a.settings.places.0 r.bytes.0 r.left q.size made_room.room
 
       left_as : made.shelf ≡ left_in a r t₁
       left_as =
@@ -229,7 +233,7 @@ module _ {a : Tally} {q : Request} {t : Tables} {entry free events : List ℕ} {
           → Met a t events at (admits a q t) w u entry' free' events'
       admitted d =
           let past : beyond_of a.settings t₁ ≡ beyond_of a.settings t =
-          beyond_queue a.settings t queue₁ (drop_same t.queue queue₁ a.files_kept a.settings.places.0 y.apart.long live.few y.apart.past) in
+          beyond_queue a.settings t queue₁ (drop_same t.queue queue₁ a.files_kept a.settings.places.0 made_room.left.apart.long live.few made_room.left.apart.past) in
           meetings.met_as enters_as refl
           (record {
             outcome = d.outcome;

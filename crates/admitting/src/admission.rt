@@ -1,22 +1,21 @@
 // The admission of a newcomer, by either policy.
 ghost use Rattle.tables.specs.Lent.{tables_of, Same};
-ghost use Rattle.admitting.specs.Deciding.{asked, Met};
+ghost use Rattle.shelving.specs.Asked.{request_of};
+ghost use Rattle.admitting.specs.Deciding.{Met};
 ghost use Rattle.admitting.specs.Admitting.{Enterable, enters, Admissible, admits};
 
 use crate::untold::Untold;
-use amounts::{Bytes, Cost, product};
+use amounts::product;
 use counting::counted;
 use method::{Outcome, Pass};
 use newcomer::{admitted, limit, newcomer};
-use shelving::{Room, drop_behind, keep, make_room, put_back, tell};
+use shelving::{Asked, Room, drop_behind, keep, make_room, put_back, tell};
 use tables::{Records, Tally};
 
 // The newcomer enters where room was made: what was set aside is evicted in order, and it takes a free place.
 fn enter(
     a: Tally,
-    f: usize,
-    z: Bytes,
-    w: Cost,
+    q: Asked,
     room: Room,
     r: &mut Records,
     key: &mut [u64],
@@ -27,9 +26,9 @@ fn enter(
     events: &mut [u32],
     at: usize,
 ) -> Untold
-    requires { Enterable a (asked f z.0 w.0) room (tables_of r.old key.old stamp.old queue.old) entry.old free.old events.old at }
+    requires { Enterable a (request_of q) room (tables_of r.old key.old stamp.old queue.old) entry.old free.old events.old at }
     ensures same { Same r.old r.new }
-    ensures met { Met a (tables_of r.old key.old stamp.old queue.old) events.old at (enters a (asked f z.0 w.0) room (tables_of r.old key.old stamp.old queue.old)) result (tables_of r.new key.new stamp.new queue.new) entry.new free.new events.new }
+    ensures met { Met a (tables_of r.old key.old stamp.old queue.old) events.old at (enters a (request_of q) room (tables_of r.old key.old stamp.old queue.old)) result (tables_of r.new key.new stamp.new queue.new) entry.new free.new events.new }
 {
     let n = a.files_kept as usize;
     let left = room.left;
@@ -38,11 +37,11 @@ fn enter(
     drop_behind(r, key, stamp, queue, free, a.settings, n, left);
     let top = a.settings.places.count() - left - 1;
     let p = usize::from(free[top]);
-    let k = newcomer(a, z, w, room);
-    keep(r, key, stamp, queue, entry, left, p, f, k);
+    let k = newcomer(a, q, room);
+    keep(r, key, stamp, queue, entry, left, p, q.file, k);
     Untold {
         outcome: Outcome::Admitted,
-        tally: admitted(a, z, w, room),
+        tally: admitted(a, q, room),
         due,
     }
 }
@@ -50,9 +49,7 @@ fn enter(
 // The admission of a newcomer that is not too big: low where it would be taken itself, and then nothing is evicted.
 pub fn admit(
     a: Tally,
-    f: usize,
-    z: Bytes,
-    w: Cost,
+    q: Asked,
     r: &mut Records,
     key: &mut [u64],
     stamp: &mut [u64],
@@ -62,25 +59,24 @@ pub fn admit(
     events: &mut [u32],
     at: usize,
 ) -> Untold
-    requires { Admissible a (asked f z.0 w.0) (tables_of r.old key.old stamp.old queue.old) entry.old free.old events.old at }
+    requires { Admissible a (request_of q) (tables_of r.old key.old stamp.old queue.old) entry.old free.old events.old at }
     ensures same { Same r.old r.new }
-    ensures met { Met a (tables_of r.old key.old stamp.old queue.old) events.old at (admits a (asked f z.0 w.0) (tables_of r.old key.old stamp.old queue.old)) result (tables_of r.new key.new stamp.new queue.new) entry.new free.new events.new }
+    ensures met { Met a (tables_of r.old key.old stamp.old queue.old) events.old at (admits a (request_of q) (tables_of r.old key.old stamp.old queue.old)) result (tables_of r.new key.new stamp.new queue.new) entry.new free.new events.new }
 {
-    let k = a.inflation + product(1, z, w);
+    let k = a.inflation + product(1, q.size, q.cost);
     let most = limit(a.settings.policy, k);
-    let room = make_room(r, a, z, most, key, stamp, queue, entry);
-    if room.low {
-        let n = a.files_kept as usize;
-        let left = room.left;
-        put_back(n, left, key, stamp, queue, entry);
-        let outcome = Outcome::Passed(Pass::LowKey);
-        return Untold {
-            outcome,
-            tally: counted(a, outcome, z, w),
-            due: at,
-        };
+    match make_room(r, a, q.size, most, key, stamp, queue, entry) {
+        Ok(room) => enter(a, q, room, r, key, stamp, queue, entry, free, events, at),
+        Err(low) => {
+            let n = a.files_kept as usize;
+            let left = low.left;
+            put_back(n, left, key, stamp, queue, entry);
+            let outcome = Outcome::Passed(Pass::LowKey);
+            Untold {
+                outcome,
+                tally: counted(a, outcome, q.size, q.cost),
+                due: at,
+            }
+        }
     }
-    enter(
-        a, f, z, w, room, r, key, stamp, queue, entry, free, events, at,
-    )
 }

@@ -4,10 +4,10 @@ ghost use Rattle.method.specs.Method as method;
 ghost use Rattle.newcomer.specs.Newcomer.{base_of, limit_of, Worthy, new_record, Admits, admitted_tally};
 ghost use Rattle.shelving.specs.Records.{kept_of};
 
-use amounts::{Bytes, Cost, Key, Policy, product};
+use amounts::{Key, Policy, product};
 use counting::counted;
 use method::Outcome;
-use shelving::{Kept, Room};
+use shelving::{Asked, Kept, Room};
 use tables::Tally;
 
 // The L that a newcomer's key is set with.
@@ -31,29 +31,29 @@ pub fn limit(policy: Policy, key: Key) -> Key
 }
 
 // The newcomer's record, with frequency 1 and the newest stamp.
-pub fn newcomer(a: Tally, z: Bytes, w: Cost, room: Room) -> Kept
-    requires { Worthy a z.0 w.0 room }
-    ensures { kept_of result ≡ new_record a z.0 w.0 room }
+pub fn newcomer(a: Tally, q: Asked, room: Room) -> Kept
+    requires { Worthy a q.size.0 q.cost.0 room }
+    ensures { kept_of result ≡ new_record a q.size.0 q.cost.0 room }
 {
     let l = base(a.settings.policy, a.inflation, room.inflation);
     Kept {
-        size: z,
-        cost: w,
+        size: q.size,
+        cost: q.cost,
         freq: 1,
-        key: l + product(1, z, w),
+        key: l + product(1, q.size, q.cost),
         stamp: a.requests,
     }
 }
 
 // The tally after the admission: what was set aside counts as evicted.
-pub fn admitted(a: Tally, z: Bytes, w: Cost, room: Room) -> Tally
-    requires { Admits a z.0 w.0 room }
-    ensures { result ≡ admitted_tally a z.0 w.0 room }
+pub fn admitted(a: Tally, q: Asked, room: Room) -> Tally
+    requires { Admits a q.size.0 q.cost.0 room }
+    ensures { result ≡ admitted_tally a q.size.0 q.cost.0 room }
 {
     let left = room.left as u64;
-    let mut b = counted(a, Outcome::Admitted, z, w);
+    let mut b = counted(a, Outcome::Admitted, q.size, q.cost);
     b.inflation = room.inflation;
-    b.bytes_kept = room.bytes + z;
+    b.bytes_kept = room.bytes + q.size;
     b.files_kept = left + 1;
     b.evicted = a.evicted + (a.files_kept - left);
     b

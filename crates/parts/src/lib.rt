@@ -7,6 +7,7 @@ ghost use Rattle.parts.specs.Parts.{Ready, PartServed};
 
 use amounts::{Bytes, Cost};
 use serving::serve;
+use shelving::Asked;
 use tables::{Records, Tally};
 
 // The tally after a part, and how many events it wrote.
@@ -38,11 +39,13 @@ pub fn serve_part(
     let mut told: usize = 0;
     for _ in 0..count {
         let taken = trace::request_at(part, at);
-        let q = taken.request;
-        let f = usize::from(q.file);
-        let z = Bytes::size(u64::from(q.size));
-        let w = Cost::asked(u64::from(q.cost));
-        let step = serve(b, f, z, w, r, key, stamp, queue, entry, free, events, told);
+        let read = taken.request;
+        let q = Asked {
+            file: usize::from(read.file),
+            size: Bytes::size(u64::from(read.size)),
+            cost: Cost::asked(u64::from(read.cost)),
+        };
+        let step = serve(b, q, r, key, stamp, queue, entry, free, events, told);
         let tally = step.tally;
         b = tally;
         told = step.events;

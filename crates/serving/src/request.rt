@@ -1,24 +1,24 @@
 // One request: the lift that may be due and a stale copy go first, then it is decided by the file number alone and told in the event list.
 ghost use Rattle.tables.specs.Lent.{tables_of, Same};
-ghost use Rattle.admitting.specs.Deciding.{asked, Meetable, meets, Met};
+ghost use Rattle.shelving.specs.Asked.{request_of};
+ghost use Rattle.admitting.specs.Deciding.{Meetable, meets, Met};
 ghost use Rattle.serving.specs.Serving.{Servable, Stepped};
 
 use crate::step::Step;
 use admitting::{Untold, admit};
-use amounts::{Bytes, Cost, Places};
+use amounts::Places;
 use counting::counted;
 use dropping::drop_stale;
 use hitting::hit;
 use lifting::lift;
 use method::{Outcome, Pass, event};
+use shelving::Asked;
 use tables::{Records, Tally};
 
-// A hit, a pass or an admission, w being the cost in force: of the events only the evictions are written.
+// A hit, a pass or an admission, asked with the cost in force: of the events only the evictions are written.
 fn meet(
     a: Tally,
-    f: usize,
-    z: Bytes,
-    w: Cost,
+    q: Asked,
     r: &mut Records,
     key: &mut [u64],
     stamp: &mut [u64],
@@ -28,11 +28,11 @@ fn meet(
     events: &mut [u32],
     at: usize,
 ) -> Untold
-    requires { Meetable a (asked f z.0 w.0) (tables_of r.old key.old stamp.old queue.old) entry.old free.old events.old at }
+    requires { Meetable a (request_of q) (tables_of r.old key.old stamp.old queue.old) entry.old free.old events.old at }
     ensures same { Same r.old r.new }
-    ensures met { Met a (tables_of r.old key.old stamp.old queue.old) events.old at (meets a (asked f z.0 w.0) (tables_of r.old key.old stamp.old queue.old)) result (tables_of r.new key.new stamp.new queue.new) entry.new free.new events.new }
+    ensures met { Met a (tables_of r.old key.old stamp.old queue.old) events.old at (meets a (request_of q) (tables_of r.old key.old stamp.old queue.old)) result (tables_of r.new key.new stamp.new queue.new) entry.new free.new events.new }
 {
-    let home = r.place[f];
+    let home = r.place[q.file];
     if home != Places::NONE {
         return Untold {
             outcome: Outcome::Hit,
@@ -40,23 +40,21 @@ fn meet(
             due: at,
         };
     }
-    if a.settings.capacity < z {
+    if a.settings.capacity < q.size {
         let outcome = Outcome::Passed(Pass::TooBig);
         return Untold {
             outcome,
-            tally: counted(a, outcome, z, w),
+            tally: counted(a, outcome, q.size, q.cost),
             due: at,
         };
     }
-    admit(a, f, z, w, r, key, stamp, queue, entry, free, events, at)
+    admit(a, q, r, key, stamp, queue, entry, free, events, at)
 }
 
-// Serves a request for file f, of size z and cost w, after the lift that may be due, and writes its events from `at` on: a stale copy, the evictions, and its own entry, which is that of its outcome.
+// Serves a request after the lift that may be due, and writes its events from `at` on: a stale copy, the evictions, and its own entry, which is that of its outcome.
 pub fn serve(
     a: Tally,
-    f: usize,
-    z: Bytes,
-    w: Cost,
+    q: Asked,
     r: &mut Records,
     key: &mut [u64],
     stamp: &mut [u64],
@@ -66,17 +64,20 @@ pub fn serve(
     events: &mut [u32],
     at: usize,
 ) -> Step
-    requires { Servable a (asked f z.0 w.0) (tables_of r.old key.old stamp.old queue.old) entry.old free.old events.old at }
+    requires { Servable a (request_of q) (tables_of r.old key.old stamp.old queue.old) entry.old free.old events.old at }
     ensures same { Same r.old r.new }
-    ensures stepped { Stepped a (asked f z.0 w.0) (tables_of r.old key.old stamp.old queue.old) events.old at result (tables_of r.new key.new stamp.new queue.new) entry.new free.new events.new }
+    ensures stepped { Stepped a (request_of q) (tables_of r.old key.old stamp.old queue.old) events.old at result (tables_of r.new key.new stamp.new queue.new) entry.new free.new events.new }
 {
     let lifted = lift(a, queue, key);
-    let cleaned = drop_stale(lifted, f, z, r, key, stamp, queue, entry, free, events, at);
+    let cleaned = drop_stale(lifted, q, r, key, stamp, queue, entry, free, events, at);
+    let priced = Asked {
+        file: q.file,
+        size: q.size,
+        cost: q.cost.in_force(q.size),
+    };
     let met = meet(
         cleaned.tally,
-        f,
-        z,
-        w.in_force(z),
+        priced,
         r,
         key,
         stamp,
@@ -89,7 +90,7 @@ pub fn serve(
     let outcome = met.outcome;
     let tally = met.tally;
     let due = met.due;
-    events[due] = event(u32::from(outcome.kind()), f);
+    events[due] = event(u32::from(outcome.kind()), q.file);
     let next = due + 1;
     Step {
         outcome,

@@ -1,4 +1,5 @@
 -- What the contracts cite.
+pub mod Asked
 pub mod Live
 pub mod Room
 pub mod Records

@@ -17,25 +17,25 @@ limit_is a size cost is keyed valued = is ∙ ap (limit_of (policy_in a.settings
 pub add-k-requires : goal.add-k-requires
 add-k-requires c = omega (arith, c.product.ensures, key_fits c.requires)
 
-pub make_room-room-requires : goal.make_room-room-requires
-make_room-room-requires c = roomless c.requires
+pub make_room-requires : goal.make_room-requires
+make_room-requires c = roomless c.requires
 
 pub put_back-requires : goal.put_back-requires
 put_back-requires c =
-    let most = limit_is c.args.a c.args.z.0 c.args.w.0 c.limit-most.ensures c.add-k.ensures c.product.ensures in
-    apiece c.requires most c.make_room-room.ensures c.if-room.true
+    let most = limit_is c.args.a c.args.q.size.0 c.args.q.cost.0 c.limit-most.ensures c.add-k.ensures c.product.ensures in
+    apiece c.requires most c.in-Err.ensures
 
-pub returns-then-room-clause-met : goal.returns-then-room-clause-met
-returns-then-room-clause-met c =
-    let most = limit_is c.args.a c.args.z.0 c.args.w.0 c.limit-most.ensures c.add-k.ensures c.product.ensures in
-    lows c.requires most c.make_room-room.ensures c.if-room.true c.put_back.ensures c.counted.ensures
+pub returns-in-Err-clause-met : goal.returns-in-Err-clause-met
+returns-in-Err-clause-met c =
+    let most = limit_is c.args.a c.args.q.size.0 c.args.q.cost.0 c.limit-most.ensures c.add-k.ensures c.product.ensures in
+    lows c.requires most c.in-Err.ensures c.put_back.ensures c.counted.ensures
 
 pub enter-requires : goal.enter-requires
 enter-requires c =
-    let most = limit_is c.args.a c.args.z.0 c.args.w.0 c.limit-most.ensures c.add-k.ensures c.product.ensures in
-    enterable c.requires most c.make_room-room.ensures c.if-room.false
+    let most = limit_is c.args.a c.args.q.size.0 c.args.q.cost.0 c.limit-most.ensures c.add-k.ensures c.product.ensures in
+    enterable c.requires most c.in-Ok.ensures
 
-pub returns-clause-met : goal.returns-clause-met
-returns-clause-met c =
-    let most = limit_is c.args.a c.args.z.0 c.args.w.0 c.limit-most.ensures c.add-k.ensures c.product.ensures in
-    admitted c.requires most c.make_room-room.ensures c.if-room.false c.enter.ensures.met
+pub returns-in-Ok-clause-met : goal.returns-in-Ok-clause-met
+returns-in-Ok-clause-met c =
+    let most = limit_is c.args.a c.args.q.size.0 c.args.q.cost.0 c.limit-most.ensures c.add-k.ensures c.product.ensures in
+    admitted c.requires most c.in-Ok.ensures c.enter.ensures.met

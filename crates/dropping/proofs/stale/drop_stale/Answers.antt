@@ -8,11 +8,11 @@ use Rattle.dropping.proofs.Cleanings.{still_out, still_same, space, known, drops
 use Rattle.dropping.proofs.stale.drop_stale.Goals as goal
 
 pub returns-then-home-clause-cleaned : goal.returns-then-home-clause-cleaned
-returns-then-home-clause-cleaned c = still_out c.requires c.args.z.0 c.if-home.true
+returns-then-home-clause-cleaned c = still_out c.requires c.args.q.size.0 c.if-home.true
 
-pub returns-then-from-z-clause-cleaned : goal.returns-then-from-z-clause-cleaned
-returns-then-from-z-clause-cleaned c =
-    let same : get_or c.args.r.now.size.now c.from-p.result 0 ≡ c.args.z.0 = omega (arith, c.from.ensures, c.if-from-z.true) in
+pub returns-then-from-q-clause-cleaned : goal.returns-then-from-q-clause-cleaned
+returns-then-from-q-clause-cleaned c =
+    let same : get_or c.args.r.now.size.now c.from-p.result 0 ≡ c.args.q.size.0 = omega (arith, c.from.ensures, c.if-from-q.true) in
     still_same c.requires c.if-home.false c.from-p.ensures same
 
 pub event-requires : goal.event-requires
@@ -23,4 +23,4 @@ pub bounds-events-at : goal.bounds-events-at
 bounds-events-at c = omega (arith, space c.requires c.if-home.false)
 
 pub returns-clause-cleaned : goal.returns-clause-cleaned
-returns-clause-cleaned c = drops c.requires c.if-home.false c.from-p.ensures (λ e. omega (arith, e, c.from.ensures, c.if-from-z.false)) (c.event.ensures ∙ ap (λ (k : ℕ). event k c.args.f) c.from-2.ensures) c.drop_copy-tally.ensures.gone
+returns-clause-cleaned c = drops c.requires c.if-home.false c.from-p.ensures (λ e. omega (arith, e, c.from.ensures, c.if-from-q.false)) (c.event.ensures ∙ ap (λ (k : ℕ). event k c.args.q.file) c.from-2.ensures) c.drop_copy-tally.ensures.gone

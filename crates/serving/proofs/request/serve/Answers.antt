@@ -33,4 +33,4 @@ returns-clause-stepped c =
     let lifted = c.lift-lifted.ensures in
     stepped c.requires lifted
     (near (servable c.requires lifted) c.drop_stale-cleaned.ensures.cleaned c.in_force.ensures c.meet-met.ensures.met (ready c.requires lifted)
-    (c.event.ensures ∙ ap (λ (k : ℕ). event k c.args.f) (c.from.ensures ∙ c.kind.ensures)))
+    (c.event.ensures ∙ ap (λ (k : ℕ). event k c.args.q.file) (c.from.ensures ∙ c.kind.ensures)))
