@@ -40,7 +40,8 @@ fn meet(
             due: at,
         };
     }
-    if a.settings.capacity < q.size {
+    let too_big = a.settings.capacity < q.size;
+    if too_big {
         let outcome = Outcome::Passed(Pass::TooBig);
         return Untold {
             outcome,

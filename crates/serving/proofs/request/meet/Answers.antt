@@ -11,8 +11,8 @@ returns-then-home-clause-met c =
     let o = c.hit.ensures.others in
     strikes_at c.requires c.if-home.true c.from.ensures o.place o.file o.size o.cost c.hit.ensures.hit
 
-pub returns-then-lt-clause-met : goal.returns-then-lt-clause-met
-returns-then-lt-clause-met c = bigs c.requires c.if-home.false (search rules) c.counted.ensures
+pub returns-then-too_big-clause-met : goal.returns-then-too_big-clause-met
+returns-then-too_big-clause-met c = bigs c.requires c.if-home.false (search rules) c.counted.ensures
 
 pub returns-clause-met : goal.returns-clause-met
 returns-clause-met c = admitted c.requires c.if-home.false (search rules) c.admit.ensures.met
