@@ -118,9 +118,6 @@ module _ (trace text text' : List ℕ) (count : ℕ) (p : Laid (sheet_of trace) 
   pub sheet_inside : count ≤ length text'
   sheet_inside = omega (arith, p.ends, sheet_fits trace, a.room, laid_long _ _ _ _ _ p)
 
-  pub sheet_copies : count ≤ length out → Roomy (take count text') 0 out
-  sheet_copies h = record { room = omega (arith, h, p.ends, ap length taken) }
-
   pub sheet_done : count ≤ length out → (out' : List ℕ) (at : ℕ) → Laid (take count text') 0 out out' at → Sheeted trace out (Ok count) out'
   sheet_done h out' at q =
       let e = le-leb (length (sheet_of trace)) (length out) (omega (arith, h, p.ends)) in

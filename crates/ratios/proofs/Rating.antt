@@ -1,17 +1,19 @@
--- The answer that is due to a tally: when it has both ratios, and that it is the one answer. Assumes nothing.
-use mathlib.Core.Path.{◌≡◌, sym, ◌∙◌}
+-- The answer that is due to a tally: refused first where nothing was asked, when it has both ratios, and that it is the one answer. Assumes nothing.
+use mathlib.Core.Path.{◌≡◌, refl, sym, ◌∙◌}
 use mathlib.Core.List.{[]}
+use Rattle.std.specs.Prelude.{Err}
 use mathlib.Core.Logic.{⊎_elim}
 use Prim.Native.Nat.{ℕ, ◌≤◌, ◌<◌}
 use native.Mathlib.Omega.{arith}
 use Rattle.amounts.proofs.Tests.{same, below}
 use Rattle.card.specs.Card.{refused}
+use Rattle.card.specs.declared.Refusal.TheVariants.{NoRequests}
 use Rattle.tables.specs.Tables.{Tables}
 use Rattle.tables.specs.Sound.{Counted, Sound}
 use Rattle.tables.specs.declared.tally.Tally.{Tally}
 use Rattle.tables.proofs.SoundDecided.{counted_decided}
 use Rattle.ratios.specs.Quotient.{exact_most}
-use Rattle.ratios.specs.Ratios.{ratios_of, Rateable, RatioCard, giving, refusing, Rates}
+use Rattle.ratios.specs.Ratios.{ratios_of, Rateable, RatioCard, giving, refusing, ratio_card, Rates}
 
 some : {n : ℕ} → (n ≡ 0 → ⊥) → 1 ≤ n
 some {n} ne = omega arith
@@ -24,6 +26,10 @@ rateable a n h k =
       hits = record { within = omega (arith, h.counts.outcomes); some = n; exact = omega (arith, h.few) };
       bytes = record { within = b.hit_asked; some = omega (arith, b.asked_least); exact = k };
     }
+
+-- document 02, ticket 3: 11 when there are no requests, whatever else the tally breaks
+pub rates_none : (a : Tally) → a.requests ≡ 0 → Rates a (ratio_card (Err NoRequests))
+rates_none a e = record { none = λ _. refl; unsound = λ n. absurd (omega arith); inexact = λ n. absurd (omega arith); rated = λ n. absurd (omega arith) }
 
 -- ---- one answer
 

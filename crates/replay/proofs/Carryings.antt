@@ -1,4 +1,4 @@
--- A run carried on: the ways through. Assumes nothing.
+-- A run carried on: sound tables are ready to be served. Assumes nothing.
 use mathlib.Core.Path.{◌≡◌}
 use mathlib.Core.Bool.{Bool, true}
 use mathlib.Core.List.{List}
@@ -17,8 +17,6 @@ use Rattle.serving.specs.Serving.{Running}
 use Rattle.refusing.specs.Judging.{Judgeable, fitting, fine, settled, Orderly}
 use Rattle.refusing.proofs.Rooms.{fits, settled_fine}
 use Rattle.parts.specs.Parts.{Ready}
-
--- ---- sound tables, ready to be served
 
 pub orderly : (unit : ℕ) (a : Tally) (t : Tables) → settled unit a (long a.settings t) ≡ fine → Orderly a t
 orderly unit a t e = let x = settled_fine unit a (long a.settings t) e in record { range = x.0; long = long_of a.settings.places.0 a.settings.catalogue.0 t x.1 }
