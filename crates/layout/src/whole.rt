@@ -4,7 +4,7 @@ ghost use Rattle.trace.specs.Stores.{Laid};
 ghost use Rattle.trace.specs.Reading.{opened};
 ghost use Rattle.layout.specs.Sheet.{of_file, sheet_of};
 ghost use Rattle.lines.specs.Lines.{refused_line};
-ghost use Rattle.layout.specs.Steps.{Given, Ample};
+ghost use Rattle.layout.specs.Steps.{Given};
 ghost use Rattle.layout.specs.Promise.{Sheeted};
 
 use crate::run::{OWN_CATALOGUE, OWN_PLACES, run_into};
@@ -21,17 +21,15 @@ const OWN_EVENTS: usize = 32768;
 pub const SHEET_MOST: usize = 393629;
 
 // The line of a refusal, over the front of a text; its length.
-fn put_refused(refusal: Refusal, text: &mut [u8]) -> usize
-    requires { Ample text.old }
+fn put_refused(refusal: Refusal, text: &mut [u8; SHEET_MOST]) -> usize
     ensures { Laid (refused_line (card_of refusal).number) 0 text.old text.new result }
 {
     put_item(b"refused", refusal.number(), b'\n', text, 0)
 }
 
 // The sheet of settings and the part after them, over the front of a text; its length.
-fn put_file(settings: Settings, part: &[u8], text: &mut [u8]) -> usize
-    requires given { Given settings part.now }
-    requires ample { Ample text.old }
+fn put_file(settings: Settings, part: &[u8], text: &mut [u8; SHEET_MOST]) -> usize
+    requires { Given settings part.now }
     ensures { Laid (of_file (opened settings part.now)) 0 text.old text.new result }
 {
     if OWN_PLACES < settings.places.count() {
@@ -48,8 +46,7 @@ fn put_file(settings: Settings, part: &[u8], text: &mut [u8]) -> usize
 }
 
 // The sheet of a trace, over the front of a text; its length.
-fn put_sheet(trace: &[u8], text: &mut [u8]) -> usize
-    requires { Ample text.old }
+fn put_sheet(trace: &[u8], text: &mut [u8; SHEET_MOST]) -> usize
     ensures { Laid (sheet_of trace.now) 0 text.old text.new result }
 {
     if INPUT_MOST < trace.len() {

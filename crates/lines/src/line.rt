@@ -1,4 +1,4 @@
-// A word with its number, and the line of an event.
+// A word with its number, and the line of an event. The text is a buffer that is lent, so it goes with a place in it.
 ghost use Rattle.std.specs.Prelude.{◌≡◌};
 ghost use Rattle.trace.specs.Stores.{Roomy, Laid};
 ghost use Rattle.lines.specs.Lines.{item, kind_word, event_line};

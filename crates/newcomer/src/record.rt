@@ -10,7 +10,7 @@ use method::Outcome;
 use shelving::{Asked, Kept, Room};
 use tables::Tally;
 
-// The L that a newcomer's key is set with.
+// The L that a newcomer's key is set with. The policies differ here, in `limit` and in a hit's frequency: one test each, shorter than a rule handed in.
 fn base(policy: Policy, before: Key, after: Key) -> Key
     ensures { result.0 ≡ base_of (method.policy_of policy.0) before.0 after.0 }
 {

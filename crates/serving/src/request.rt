@@ -52,6 +52,7 @@ fn meet(
     admit(a, q, r, key, stamp, queue, entry, free, events, at)
 }
 
+// The index, the free places and the event list go beside the records: the queue takes the index with its own slices, and C lends the events.
 // Serves a request after the lift that may be due, and writes its events from `at` on: a stale copy, the evictions, and its own entry, which is that of its outcome.
 pub fn serve(
     a: Tally,

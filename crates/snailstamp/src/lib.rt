@@ -1,4 +1,5 @@
 // The boundary: numbers and lent slices in, one word out, and no rule of its own. `snailstamp_c` exports it.
+// Settings come as five numbers, tables and lists one by one, and answers go out as one word, because C passes them so.
 #![tactic(auto)]
 
 mod logs;

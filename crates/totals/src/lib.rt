@@ -11,7 +11,7 @@ ghost use Rattle.totals.specs.Totals.{Numbers};
 use amounts::{Key, Requests};
 use tables::Tally;
 
-// Whether bytes asked and hit bytes lie within their bounds.
+// Whether bytes asked and hit bytes lie within their bounds. The limit of requests is asked, for a tally holds any words until it is tested.
 // Costs have a function of their own: one for both would need a trait with the limit, the number and its order, which is longer.
 fn bytes_agree(a: Tally) -> bool
     requires hits_le_requests_most { a.hits ≤ requests_most }

@@ -110,7 +110,7 @@ pub(crate) fn read_from(
     Ok(count)
 }
 
-// The requests of a further part, into the fronts of three lists.
+// The requests of a further part, into the fronts of three lists, which go one by one since C lends them so.
 pub fn read_part(
     catalogue: Catalogue,
     part: &[u8],

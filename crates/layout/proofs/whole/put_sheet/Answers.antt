@@ -14,8 +14,8 @@ slice_bounds-put_file-count c = start_inside c.args.trace.now c.if-trace-gt-INPU
 pub slice_bounds-put_file-start : goal.slice_bounds-put_file-start
 slice_bounds-put_file-start c = start_inside c.args.trace.now c.if-trace-gt-INPUT_MOST.false _ c.in-Ok.ensures _ _ refl
 
-pub put_file-requires-clause-given : goal.put_file-requires-clause-given
-put_file-requires-clause-given c = start_given c.args.trace.now c.if-trace-gt-INPUT_MOST.false _ c.in-Ok.ensures _ _ refl
+pub put_file-requires : goal.put_file-requires
+put_file-requires c = start_given c.args.trace.now c.if-trace-gt-INPUT_MOST.false _ c.in-Ok.ensures _ _ refl
 
 pub returns-in-Err : goal.returns-in-Err
 returns-in-Err c = laid_as (start_refused c.args.trace.now c.if-trace-gt-INPUT_MOST.false _ c.in-Err.ensures _ refl) c.put_refused-in-Err.ensures
