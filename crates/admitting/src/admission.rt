@@ -1,4 +1,5 @@
 // The admission of a newcomer, by either policy.
+// C lends the event list, so it goes with the place of the next event.
 ghost use Rattle.tables.specs.Lent.{tables_of, Same};
 ghost use Rattle.shelving.specs.Asked.{request_of};
 ghost use Rattle.admitting.specs.Deciding.{Met};

@@ -17,7 +17,7 @@ impl Cost {
 
     pub const PACKETS_LEAST: u64 = 2;
 
-    // Whether a number may be the cost in a request.
+    // Whether a number may be the cost in a request: one comparison, since 0 is in range too.
     pub fn is_cost(n: u64) -> bool
         ensures { result ≡ is_cost n }
     {

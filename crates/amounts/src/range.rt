@@ -16,6 +16,7 @@ pub(crate) fn one_to(most: u64, n: u64) -> bool
 
 // Whether so many files, each at least 1 and at most the limit, can come to a total.
 // Bytes and costs call it with their own limits: a trait for the two would say no more than these calls.
+// The files are asked to be few enough that the product fits; a tally holds any words until it is tested, so no type says it.
 #[tactic(auto, unfolding(crate::specs::Limits::total_of))]
 pub(crate) fn total_of(most: u64, files: u64, total: u64) -> bool
     requires most_le_size_most { most ≤ size_most }

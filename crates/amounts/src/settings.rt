@@ -13,6 +13,7 @@ pub struct Unit(pub u64);
 impl Unit {
     pub const MOST: u64 = 4294967295;
 
+    // One comparison, since 0 is in range too; like the other range tests it is handed to the reader by its name.
     pub fn is_unit(n: u64) -> bool
         ensures { result ≡ is_unit n }
     {
@@ -66,7 +67,7 @@ impl Places {
         one_to(Places::MOST, n)
     }
 
-    // The places as the length of a table.
+    // The places as the length of a table: a name and no `From`, which would not say that a length is meant.
     pub fn count(self) -> usize
         ensures { result ≡ self.0 }
     {
@@ -94,7 +95,7 @@ impl Catalogue {
         Catalogue::is_catalogue(self.0)
     }
 
-    // The catalogue as the length of a table.
+    // The catalogue as the length of a table, under a name as the places are.
     pub fn count(self) -> usize
         ensures { result ≡ self.0 }
     {

@@ -1,4 +1,5 @@
 // A copy of another size than the one asked for is stale: it goes before the request goes on.
+// C lends the event list, so it goes with the place of the next event.
 ghost use Rattle.tables.specs.Lent.{tables_of, Same};
 ghost use Rattle.dropping.specs.Cleaning.{Cleanable, old_in, Cleans};
 

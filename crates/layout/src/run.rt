@@ -1,4 +1,5 @@
 // A run from a fresh start, over tables of the call's own.
+// They are arrays of a fixed length: the project has no heap.
 ghost use Rattle.tables.specs.Tally.{fresh_tally};
 ghost use Rattle.replay.specs.Carrying.{carried};
 ghost use Rattle.layout.specs.Steps.{OwnSized, Ran};

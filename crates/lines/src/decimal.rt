@@ -3,7 +3,7 @@ ghost use Rattle.std.specs.Prelude.{◌≡◌, length};
 ghost use Rattle.trace.specs.Stores.{Roomy, Laid};
 ghost use Rattle.lines.specs.Decimal.{decimal};
 
-// How many digits a number has. The loop stays a `while`: a turn divides what is left, and no range counts the turns.
+// How many digits a number has; `writer` has its own for groups of seven bits, since each has a definition and laws of its own. The loop stays a `while`: a turn divides what is left, and no range counts the turns.
 pub(crate) fn width(n: u64) -> usize
     ensures { result ≡ length (decimal n) }
 {

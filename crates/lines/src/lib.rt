@@ -1,4 +1,5 @@
 // The lines of the sheet, laid into a text (document 01, "The sheet").
+// By hand and no `Display`: which bytes that writes the library says only for a `String`, and the project has no heap.
 #![tactic(auto)]
 
 mod decimal;

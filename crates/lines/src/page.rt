@@ -1,4 +1,5 @@
 // The page of a run: its unit, its events, its tally.
+// The text is lent, so it goes with a place in it.
 ghost use Rattle.trace.specs.Stores.{Roomy, Laid};
 ghost use Rattle.lines.specs.Lines.{event_lines, counts_line, asked_line, last_line, page};
 

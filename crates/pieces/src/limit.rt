@@ -1,4 +1,5 @@
 // 4,294,967,295 requests pass; one more is 5.
+// The tables go one by one, as `carry_on` takes them, in arrays of a fixed length: the project has no heap.
 use crate::sheets::settings;
 use amounts::{Bytes, Cost, Places, Requests, Settings};
 use replay::carry_on;

@@ -11,6 +11,7 @@ use refusing::{judge_settings, room_for};
 use tables::{Records, Tables, Tally};
 
 // Carries on over tables whose settings and lengths are in order: the eight slices as `carry_on` has them.
+// The call's own lists are arrays of a fixed length: the project has no heap.
 fn carry_sound(
     a: Tally,
     place: &mut [u16],

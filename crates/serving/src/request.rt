@@ -1,4 +1,5 @@
 // One request: the lift that may be due and a stale copy go first, then it is decided by the file number alone and told in the event list.
+// The index, the free places and the event list go beside the records: the queue takes the index with its own slices, and C lends the events.
 ghost use Rattle.tables.specs.Lent.{tables_of, Same};
 ghost use Rattle.shelving.specs.Asked.{request_of};
 ghost use Rattle.admitting.specs.Deciding.{Meetable, meets, Met};
@@ -52,7 +53,6 @@ fn meet(
     admit(a, q, r, key, stamp, queue, entry, free, events, at)
 }
 
-// The index, the free places and the event list go beside the records: the queue takes the index with its own slices, and C lends the events.
 // Serves a request after the lift that may be due, and writes its events from `at` on: a stale copy, the evictions, and its own entry, which is that of its outcome.
 pub fn serve(
     a: Tally,

@@ -1,4 +1,5 @@
 // Reads a trace file from standard input and prints its sheet (document 01, "The sheet").
+// Input and sheet are arrays of a fixed length: the project has no heap.
 #![tactic(auto)]
 
 ghost use Rattle.std.specs.Prelude.{◌≤◌, IfOk, length};

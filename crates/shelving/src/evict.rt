@@ -1,4 +1,5 @@
 // The files set aside leave: their events are told in order, then their records and places go.
+// C lends the event list, so it goes with the place of the next event, which is no count of the loop's turns.
 ghost use Rattle.tables.specs.Lent.{tables_of, Same};
 ghost use Rattle.shelving.specs.Evicting.{Droppable, Dropped};
 ghost use Rattle.shelving.specs.Telling.{Tellable, Told};

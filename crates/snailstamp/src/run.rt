@@ -1,4 +1,5 @@
 // A fresh start, and a run carried on.
+// The words are slices that C lends, so each export tests their length first; each answer has words and a definition of its own, so each has its `put`.
 ghost use Rattle.std.specs.Prelude.{◌≤◌, length};
 ghost use Rattle.tables.specs.Tables.{tables};
 ghost use Rattle.words.specs.Words.{tally_words, settings_from};

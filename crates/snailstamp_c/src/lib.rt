@@ -1,4 +1,5 @@
 // What C and Rust link: one export for each function of the boundary, with the same clauses, and no rule of its own.
+// C lends each slice by itself, so they go one by one.
 #![tactic(auto)]
 
 ghost use Rattle.tables.specs.Tables.{tables};

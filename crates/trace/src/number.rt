@@ -1,4 +1,5 @@
 // House numbers: groups of seven bits, lowest group first, top bit set on every group but the last.
+// A place goes beside the whole part: a slice of what is left would lose the offset that a refusal names.
 ghost use Rattle.std.specs.Prelude.{ℕ, Bool, ◌≡◌, ◌≤◌, length, drop};
 ghost use Rattle.card.specs.declared.Refusal.{Refusal};
 ghost use Rattle.trace.specs.Fields.{field};

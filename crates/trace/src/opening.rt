@@ -33,7 +33,7 @@ pub fn settings_at(trace: &[u8]) -> Result<(Settings, usize), Refusal>
     Ok((settings, catalogue.next))
 }
 
-// The settings of a file, and its requests into the fronts of three lists.
+// The settings of a file, and its requests into the fronts of three lists, which go one by one since C lends them so.
 pub fn read_file(
     trace: &[u8],
     files: &mut [u16],

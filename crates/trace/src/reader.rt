@@ -1,4 +1,5 @@
 // Reading requests, from a further part or from behind the settings of a file.
+// Lists that are written to go one by one, since C lends them so, and a value of the three would be made for one call.
 ghost use Rattle.std.specs.Prelude.{◌≡◌, ◌≤◌, ◌<◌, length, drop};
 ghost use Rattle.trace.specs.Reading.{read_of, rows};
 ghost use Rattle.trace.specs.Steps.{Requested, RequestAt, RequestRead, counted, Ready, ReadFrom};

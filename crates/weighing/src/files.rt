@@ -1,4 +1,5 @@
 // The files: each has no place, or one that points back at it and holds a record in range.
+// `Covered` is asked and is no type, since it is asked of any tables that are lent.
 ghost use Rattle.std.specs.Prelude.{◌<◌};
 ghost use Rattle.method.specs.Method.{policy_of};
 ghost use Rattle.method.specs.Promise.{Once};

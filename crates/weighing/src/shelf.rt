@@ -12,6 +12,7 @@ use large::Large;
 use tables::{Tables, Tally};
 
 // Whether the sums over the files that have a place are those of the tally and within their bounds.
+// The limit of requests is asked: a tally holds any words, and `totals_agree` is what found it.
 fn sums_agree(a: Tally, t: Tables) -> bool
     requires weighable { Weighable a.settings.catalogue.0 (shown t) }
     requires requests_le_requests_most { a.requests ≤ requests_most }

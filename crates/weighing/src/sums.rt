@@ -1,4 +1,5 @@
 // Sums over the files that have a place: those of the shelf that the tables stand for.
+// `Weighable` is asked here and in shelf.rt, and is no type: `all_lawful` finds it of tables that hold any words.
 ghost use Rattle.std.specs.Prelude.{◌≡◌, ◌+◌, ◌/◌, ◌≤◌};
 ghost use Rattle.amounts.specs.Limits.{requests_most, frequency_most, lift};
 ghost use Rattle.amounts.specs.Worth.{Valued, product_of};

@@ -1,4 +1,5 @@
 // The bytes of a house number.
+// The buffer is lent, so it goes with a place in it; `lines` has a width of its own for digits, with laws of its own.
 ghost use Rattle.std.specs.Prelude.{◌≡◌, ◌≤◌, length};
 ghost use Rattle.trace.specs.Number.{encode, number_most};
 ghost use Rattle.trace.specs.Stores.{Roomy, Laid};
