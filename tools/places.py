@@ -12,13 +12,13 @@ import sys
 root = sys.argv[1] if len(sys.argv) > 1 else "."
 tables = {"place", "file", "size", "cost", "freq", "key", "stamp", "queue"}
 groups = {
-    "four or more of the eight tables": lambda s: len(s & tables) >= 4 and "policy" not in s,
+    "four or more of the eight tables": lambda s: len(s & tables) >= 4 and not {"policy", "inflation"} <= s,
     "the three lists of a trace": lambda s: {"files", "sizes", "costs"} <= s,
     "queue and index with keys": lambda s: {"queue", "entry"} <= s and bool(s & {"keys", "key"}),
     "file, size and cost asked for": lambda s: {"f", "z"} <= s,
     "file, size and cost written": lambda s: {"file", "size", "cost"} <= s and not s & {"place", "key"},
     "a buffer with a place in it": lambda s: "out" in s and bool(s & {"at", "from"}),
-    "events with a place or a count": lambda s: "events" in s and bool(s & {"at", "count"}),
+    "events with a place or a count": lambda s: "events" in s and ("at" in s or "count" in s and "part" not in s),
     "the call's own lists": lambda s: {"entry", "free"} <= s,
     "five settings as words": lambda s: {"unit", "policy", "capacity", "places", "catalogue"} <= s,
     "two keys with their stamps": lambda s: {"key_a", "stamp_a"} <= s,
