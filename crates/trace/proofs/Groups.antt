@@ -1,5 +1,5 @@
 -- Laws of a number in the course of being read. Assumes nothing.
-use Prim.Native.Nat.{ℕ, zero, suc, ◌+◌, ◌*◌, ◌-◌, ◌%◌, ◌^◌, ◌≤◌, ◌<◌, min}
+use Prim.Native.Nat.{ℕ, zero, suc, ◌+◌, ◌*◌, ◌-◌, ◌%◌, ◌^◌, ◌≤◌, ◌<◌}
 use mathlib.Core.Path.{◌≡◌, refl, ap, sym, subst, ◌∙◌}
 use mathlib.Core.Logic.{⊎_elim}
 use mathlib.Core.List.{List, [], ◌∷◌}
@@ -150,28 +150,28 @@ pub pending_none : (part : List ℕ) (at i : ℕ) (g : Group) → Pending part a
 pending_none part at i g p h =
     ⊎_elim (λ few. p.same ∙ pend_end part g i (h few)) (λ many. p.same ∙ pend_over g (omega (arith, many, p.fine.few)) (drop i part)) (below g.count 6)
 
--- the number that is read from a place on, where the byte at i is the next
-module _ (part : List ℕ) (at i value scale : ℕ) (from : at ≤ i) where
+-- the number that is read from a place on, where so many groups are read and the byte behind them is the next
+module _ (part : List ℕ) (at group value scale : ℕ) where
   abbrev so_far : Group
-  so_far = record { value = value; scale = scale; count = i - at }
+  so_far = record { value = value; scale = scale; count = group }
 
-  module _ (p : Pending part at i so_far) (few : i < at + 6) (inside : i < length part) where
-    less : i - at < 6
-    less = omega (arith, few, from)
+  module _ (p : Pending part at (at + group) so_far) (few : group < 6) (inside : at + group < length part) where
+    abbrev b : ℕ
+    b = get_or part (at + group) 0
 
-    pub reading_more : 128 ≤ get_or part i 0 → Pending part at (i + 1) (record { value = with_group so_far (get_or part i 0); scale = scale * 128; count = (i + 1) - at })
+    pub reading_more : 128 ≤ b → Pending part at (at + (group + 1)) (record { value = with_group so_far b; scale = scale * 128; count = group + 1 })
     reading_more h =
-        let e : (i - at) + 1 ≡ (i + 1) - at = omega (arith, from) in
-        subst (λ (k : ℕ). Pending part at (i + 1) (record { value = with_group so_far (get_or part i 0); scale = scale * 128; count = k })) e (pending_next part at i so_far p less inside h)
+        let e : (at + group) + 1 ≡ at + (group + 1) = omega arith in
+        subst (λ (i : ℕ). Pending part at i (next_group so_far b)) e (pending_next part at (at + group) so_far p few inside h)
 
-    pub reading_last : get_or part i 0 < 128 → (get_or part i 0 ≡ 0 → at < i → ⊥) → NumberAt part at (record { value = with_group so_far (get_or part i 0); next = i + 1 })
-    reading_last h only = pending_number part at i so_far p less inside h (λ e k. only e (omega (arith, k)))
+    pub reading_last : b < 128 → (b ≡ 0 → 0 < group → ⊥) → NumberAt part at (record { value = with_group so_far b; next = (at + group) + 1 })
+    reading_last h only = pending_number part at (at + group) so_far p few inside h only
 
-    pub reading_zero : get_or part i 0 ≡ 0 → at < i → decode (drop at part) ≡ bad
-    reading_zero e h = pending_zero part at i so_far p less inside e (omega (arith, h))
+    pub reading_zero : b ≡ 0 → 0 < group → decode (drop at part) ≡ bad
+    reading_zero e h = pending_zero part at (at + group) so_far p few inside e h
 
-  pub reading_none : Pending part at i so_far → min (at + 6) (length part) ≤ i → decode (drop at part) ≡ bad
-  reading_none p h = pending_none part at i so_far p (λ few. omega (arith, few, h, from))
+  pub reading_none : Pending part at (at + group) so_far → (group < 6 → length part ≤ at + group) → decode (drop at part) ≡ bad
+  reading_none p h = pending_none part at (at + group) so_far p h
 
 -- where there is a number, reading it never ends badly
 module _ (part : List ℕ) (at : ℕ) (there : Numbered part at) (i : ℕ) (g : Group) (p : Pending part at i g) where

@@ -16,7 +16,7 @@ use Rattle.card.specs.declared.Refusal.{Refusal}
 use Rattle.card.specs.declared.Refusal.TheVariants.{Setting, Short, Range, Room}
 use Rattle.trace.specs.Writing.{part_bytes, settings_bytes, requests_in, first_out, Put, bytes, stop, listed, part_put, file_put}
 use Rattle.trace.specs.Promise.{over, Wrote, WrotePart, WroteFile}
-use Rattle.trace.specs.Stores.{sized, Judged, Roomy, Laid}
+use Rattle.trace.specs.Stores.{Listed, sized, Judged, Roomy, Laid}
 use Rattle.trace.proofs.Laying.{laid_over, laid_then}
 
 pub wrote_stop : (p : Put) (o : List ℕ) (r : Refusal) → p ≡ stop r → Wrote p o (Err r) o
@@ -33,8 +33,9 @@ pub sized_bytes : (p : Put) (n : ℕ) → Ok n ≡ sized p → (bs : List ℕ) �
 sized_bytes (bytes bs) n e = (bs, (refl, cc))
 sized_bytes (stop a) n e = let z : ◌≡◌ {A = ℕ} 0 1 = cc in absurd (omega arith)
 
--- no request is out of range, and there is room for the bytes
+-- the lists are long enough, no request is out of range, and there is room for the bytes
 pub record Passed (c : ℕ) (front : List ℕ) (room : ℕ) (f s d bs : List ℕ) : Type 0 where
+  pub lists : Listed f s d
   pub in_range_lem : length (requests_in f s d) ≤ first_out c (requests_in f s d)
   pub fits : length bs ≤ room
   pub same : bs ≡ front ++ part_bytes (requests_in f s d)
@@ -47,9 +48,11 @@ passed c front room f s d bs e =
         → pick t₁ (pick t₂ (stop (Range (first_out c (requests_in f s d)))) (pick t₃ (bytes (front ++ part_bytes (requests_in f s d))) (stop Room))) (stop Short) ≡ bytes bs → Passed c front room f s d bs
     go true e₁ true e₂ t₃ e₃ e = let z : ◌≡◌ {A = ℕ} 0 1 = cc in absurd (omega arith)
     go true e₁ false e₂ true e₃ e =
+        let enough : length f ≤ min (length s) (length d) = leb-true _ _ e₁ in
         let in-room : length (front ++ part_bytes (requests_in f s d)) ≤ room = leb-true _ _ e₃ in
         let same : bs ≡ front ++ part_bytes (requests_in f s d) = cc in
         record {
+          lists = record { sizes = omega arith; costs = omega arith };
           in_range_lem = ltb-false _ _ e₂;
           fits = omega (arith, ap length same);
           same = same;
@@ -66,10 +69,10 @@ module _ (c : ℕ) (front f s d o : List ℕ) (head : ℕ) (e : head ≡ length 
     got : (bs : List ℕ) × ((listed c front (length o) f s d ≡ bytes bs) × (n ≡ length bs))
     got = sized_bytes _ n (sym q ∙ h.told front e)
 
-    judged_roomy : Roomy (front ++ part_bytes (requests_in f s d)) 0 o
+    judged_roomy : Listed f s d × Roomy (front ++ part_bytes (requests_in f s d)) 0 o
     judged_roomy =
         let p = passed c front (length o) f s d got.0 got.1.0 in
-        record { room = omega (arith, p.fits, ap length p.same) }
+        (p.lists, record { room = omega (arith, p.fits, ap length p.same) })
 
     judged_wrote : (o' : List ℕ) (at : ℕ) → Laid (front ++ part_bytes (requests_in f s d)) 0 o o' at → Wrote (listed c front (length o) f s d) o (Ok n) o'
     judged_wrote o' at l =
@@ -87,7 +90,7 @@ module _ (c : ℕ) (f s d o : List ℕ) where
     part_refused x q = wrote_stop _ o x (pick_true _ _ e ∙ judged_stop c [] f s d o 0 refl r h x q)
 
     module _ (n : ℕ) (q : r ≡ Ok n) where
-      pub part_room : Roomy (part_bytes (requests_in f s d)) 0 o
+      pub part_room : Listed f s d × Roomy (part_bytes (requests_in f s d)) 0 o
       part_room = judged_roomy c [] f s d o 0 refl r h n q
 
       pub part_done : (o' : List ℕ) (at : ℕ) → Laid (part_bytes (requests_in f s d)) 0 o o' at → WrotePart c f s d o (Ok n) o'
@@ -105,7 +108,7 @@ module _ (st : Settings) (f s d o : List ℕ) where
     file_refused x q = wrote_stop _ o x (pick_true _ _ e ∙ judged_stop st.catalogue.0 (settings_bytes st) f s d o head w r h x q)
 
     module _ (n : ℕ) (q : r ≡ Ok n) where
-      pub file_room : Roomy (settings_bytes st ++ part_bytes (requests_in f s d)) 0 o
+      pub file_room : Listed f s d × Roomy (settings_bytes st ++ part_bytes (requests_in f s d)) 0 o
       file_room = judged_roomy st.catalogue.0 (settings_bytes st) f s d o head w r h n q
 
       pub file_done : (o' o'' : List ℕ) (at at' : ℕ) → Laid (settings_bytes st) 0 o o' at → Laid (part_bytes (requests_in f s d)) at o' o'' at' → WroteFile st f s d o (Ok n) o''

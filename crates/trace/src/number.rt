@@ -14,20 +14,26 @@ pub struct Number {
     pub next: usize,
 }
 
-// The number at a place: at most six groups, and no last group of 0 behind others.
+// The number at a place: at most six groups, and no last group of 0 behind others. It goes into its callers, and its end
+// is asked for group by group: so the compiler lays six groups out, and a byte costs no loop.
+#[inline(always)]
 pub(crate) fn read_number(part: &[u8], at: usize) -> Result<Number, Refusal>
     requires { at ≤ length part.now }
     ensures { NumberRead part.now at result }
 {
     let mut value: u64 = 0;
     let mut scale: u64 = 1;
-    for i in at..usize::min(at + 6, part.len()) {
-        let b = part[i];
-        value += (b % 128) as u64 * scale;
-        if b == 0 && at < i {
+    for group in 0..6 {
+        let i = at + group;
+        if part.len() <= i {
             return Err(Refusal::Form(at));
         }
+        let b = part[i];
+        value += (b % 128) as u64 * scale;
         if b < 128 {
+            if b == 0 && 0 < group {
+                return Err(Refusal::Form(at));
+            }
             return Ok(Number { value, next: i + 1 });
         }
         scale *= 128;
@@ -36,6 +42,7 @@ pub(crate) fn read_number(part: &[u8], at: usize) -> Result<Number, Refusal>
 }
 
 // The number at a place whose value is in range; `out` where it is not.
+#[inline(always)]
 pub(crate) fn read_field<F: Fn(u64) -> bool>(
     part: &[u8],
     at: usize,

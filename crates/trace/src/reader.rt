@@ -12,6 +12,7 @@ use amounts::{Bytes, Catalogue, Cost};
 use card::Refusal;
 
 // The place after the request at a place, whose three fields are judged one by one.
+#[inline(always)]
 fn past_request(part: &[u8], catalogue: Catalogue, at: usize) -> Result<usize, Refusal>
     requires { at < length part.now }
     ensures { RequestRead (read_of (length part.now) catalogue.0 (drop at part.now)) part.now catalogue.0 at result }

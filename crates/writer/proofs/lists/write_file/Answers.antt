@@ -26,12 +26,12 @@ returns-in_err-count c =
 pub put_settings-from-requires : goal.put_settings-from-requires
 put_settings-from-requires c =
     let ok = told c.in_range.ensures c.if-not-in_range.false in
-    let p = file_room _ _ _ _ _ ok _ c.settings_width-head.ensures _ c.in_ok-count.ensures _ refl in
+    let p = (file_room _ _ _ _ _ ok _ c.settings_width-head.ensures _ c.in_ok-count.ensures _ refl).1 in
     record { settings_value = ok; roomy = roomy_front _ _ _ _ p }
 
 pub put_part-requires : goal.put_part-requires
 put_part-requires c =
-    let p = file_room _ _ _ _ _ (told c.in_range.ensures c.if-not-in_range.false) _ c.settings_width-head.ensures _ c.in_ok-count.ensures _ refl in
+    let p = (file_room _ _ _ _ _ (told c.in_range.ensures c.if-not-in_range.false) _ c.settings_width-head.ensures _ c.in_ok-count.ensures _ refl).1 in
     roomy_next _ _ _ _ _ _ c.put_settings-from.ensures p
 
 pub returns : goal.returns

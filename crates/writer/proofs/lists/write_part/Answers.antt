@@ -23,7 +23,7 @@ returns-in_err-count c =
     (part_refused _ _ _ _ _ (told c.in_range.ensures c.if-not-in_range.false) _ c.in_err-count.ensures _ refl)
 
 pub put_part-requires : goal.put_part-requires
-put_part-requires c = part_room _ _ _ _ _ (told c.in_range.ensures c.if-not-in_range.false) _ c.in_ok-count.ensures _ refl
+put_part-requires c = (part_room _ _ _ _ _ (told c.in_range.ensures c.if-not-in_range.false) _ c.in_ok-count.ensures _ refl).1
 
 pub returns : goal.returns
 returns c =
