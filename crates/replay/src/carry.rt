@@ -83,7 +83,7 @@ pub fn carry_on(
         stamp,
         queue,
     };
-    judge_settings(unit, a, t)?;
+    judge_settings(unit, a, t.lengths())?;
     carry_sound(
         a, place, file, size, cost, freq, key, stamp, queue, part, events,
     )

@@ -1,12 +1,27 @@
 -- The lent tables as the code hands them on: what they hold, and that they are the caller's own. Assumes nothing.
-use Rattle.std.specs.Prelude.{◌≡◌, List, ℕ}
+use Rattle.std.specs.Prelude.{◌≡◌, List, ℕ, length}
 use Rattle.tables.specs.Tables.{Tables, tables}
+use Rattle.tables.specs.declared.table_lengths.TableLengths.{TableLengths}
 use Rattle.tables.specs.declared.shown.Tables as seen
 use Rattle.tables.specs.declared.records.Records as lent
 
 -- document 01, "Tables and the tally": the eight tables to be looked at
 abbrev pub shown : seen.Tables → Tables
 shown t = tables t.place.now t.file.now t.size.now t.cost.now t.freq.now t.key.now t.stamp.now t.queue.now
+
+-- document 01, "Tables and the tally": how many entries each has
+abbrev pub lengths_of : Tables → TableLengths
+lengths_of t =
+    record {
+      place = length t.place;
+      file = length t.file;
+      size = length t.size;
+      cost = length t.cost;
+      freq = length t.freq;
+      key = length t.key;
+      stamp = length t.stamp;
+      queue = length t.queue;
+    }
 
 -- document 01, "Tables and the tally": the eight tables, of which three go beside the others
 abbrev pub tables_of : lent.Records → List ℕ → List ℕ → List ℕ → Tables

@@ -4,9 +4,11 @@
 mod records;
 mod shown;
 mod start;
+mod table_lengths;
 mod tally;
 
 pub use records::Records;
 pub use shown::Tables;
 pub use start::fresh;
+pub use table_lengths::TableLengths;
 pub use tally::Tally;

@@ -1,8 +1,9 @@
 // The lent tables to be looked at, as one value.
 ghost use Rattle.std.specs.Prelude.{◌≡◌};
 ghost use Rattle.tables.specs.Start.{long};
-ghost use Rattle.tables.specs.Lent.{shown};
+ghost use Rattle.tables.specs.Lent.{shown, lengths_of};
 
+use crate::table_lengths::TableLengths;
 use amounts::Settings;
 
 // Per file number its place; per place the file kept there and its record; the queue of occupied places.
@@ -19,19 +20,27 @@ pub struct Tables<'a> {
 }
 
 impl Tables<'_> {
-    // Whether each table has its needed length: the catalogue for the table by file number, the places for every other.
-    #[tactic(auto, unfolding(crate::specs::Tables::long_enough))]
+    // How many entries each has.
+    pub fn lengths(self) -> TableLengths
+        ensures { result ≡ lengths_of (shown self.entry) }
+    {
+        TableLengths {
+            place: self.place.len(),
+            file: self.file.len(),
+            size: self.size.len(),
+            cost: self.cost.len(),
+            freq: self.freq.len(),
+            key: self.key.len(),
+            stamp: self.stamp.len(),
+            queue: self.queue.len(),
+        }
+    }
+
+    // Whether each table has its needed length.
     pub fn are_long(self, settings: Settings) -> bool
         ensures { result ≡ long settings (shown self.entry) }
     {
-        let places = settings.places.count();
-        settings.catalogue.count() <= self.place.len()
-            && places <= self.file.len()
-            && places <= self.size.len()
-            && places <= self.cost.len()
-            && places <= self.freq.len()
-            && places <= self.key.len()
-            && places <= self.stamp.len()
-            && places <= self.queue.len()
+        self.lengths()
+            .are_enough(settings.places.count(), settings.catalogue.count())
     }
 }
