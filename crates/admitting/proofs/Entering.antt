@@ -24,7 +24,7 @@ use Rattle.tables.proofs.Shelves.{shelf_at, shelf_length, slot_none}
 use Rattle.shelving.specs.Live.{Live, Stack}
 use Rattle.shelving.specs.Evicting.{with_queue, behind, last_place, drop_last, drop_all, Dropped}
 use Rattle.shelving.specs.Records.{seven, Within, kept_of, Keepable, Keeps}
-use Rattle.shelving.specs.Telling.{Told}
+use Rattle.shelving.specs.Telling.{Tellable, Told}
 use Rattle.shelving.specs.declared.records.Kept as records
 use Rattle.shelving.specs.declared.room.Room.{Room}
 use Rattle.shelving.proofs.Links.{at_occupied}
@@ -39,6 +39,19 @@ use Rattle.shelving.proofs.Beyond.{drop_same, beyond_all}
 use Rattle.admitting.proofs.Putting.{kept_at, put}
 use Rattle.admitting.proofs.Meetings.{met_as}
 use Rattle.admitting.proofs.Tallies.{admit_totals_lem, admit_kept, tallied_after}
+
+-- ---- what the steps ask
+
+module _ {s : Settings} {n m : ℕ} {t : Tables} {entry : List ℕ} (h : Live s n m t entry) where
+  pub live_tellable : (events : List ℕ) (at : ℕ) → at + n ≤ length events → Tellable n m t.file t.queue events at
+  live_tellable events at room =
+      record {
+        part = h.part;
+        long = omega (arith, h.few, h.long.queue);
+        filed = λ i _ b. omega (arith, (h.queued.entries i b).inside, h.long.file);
+        known = λ i _ b. omega (arith, (h.queued.entries i b).known, h.catalogue);
+        room = omega (arith, h.part);
+      }
 
 pub length_behind : (t : Tables) (n k : ℕ) → length (behind t n k) ≡ k
 unfolding behind

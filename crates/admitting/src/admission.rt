@@ -5,12 +5,13 @@ ghost use Rattle.shelving.specs.Asked.{request_of};
 ghost use Rattle.admitting.specs.Deciding.{Met};
 ghost use Rattle.admitting.specs.Admitting.{Enterable, enters, Admissible, admits};
 
+use crate::records::{make_room, tell};
 use crate::untold::Untold;
 use amounts::product;
 use counting::counted;
 use method::{Outcome, Pass};
 use newcomer::{admitted, limit, newcomer};
-use shelving::{Asked, Room, drop_behind, keep, make_room, put_back, tell};
+use shelving::{Asked, Room, drop_behind, keep, put_back};
 use tables::{Records, Tally};
 
 // The newcomer enters where room was made: what was set aside is evicted in order, and it takes a free place.

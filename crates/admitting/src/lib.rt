@@ -2,6 +2,7 @@
 #![tactic(auto)]
 
 mod admission;
+mod records;
 mod untold;
 
 pub use admission::admit;

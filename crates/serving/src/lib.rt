@@ -1,6 +1,7 @@
 // One request: a hit, a pass, or an admission by either policy.
 #![tactic(auto)]
 
+mod records;
 mod request;
 mod step;
 

@@ -5,12 +5,12 @@ ghost use Rattle.shelving.specs.Asked.{request_of};
 ghost use Rattle.admitting.specs.Deciding.{Meetable, meets, Met};
 ghost use Rattle.serving.specs.Serving.{Servable, Stepped};
 
+use crate::records::hit;
 use crate::step::Step;
 use admitting::{Untold, admit};
 use amounts::Places;
 use counting::counted;
 use dropping::drop_stale;
-use hitting::hit;
 use lifting::lift;
 use method::{Outcome, Pass, event};
 use shelving::Asked;

@@ -9,15 +9,16 @@ use amounts::Settings;
 use method::{Kind, event};
 use tables::Records;
 
-// Writes the evictions: the files behind the queue, from the last of n entries down.
-pub fn tell(r: &Records, n: usize, left: usize, queue: &[u16], events: &mut [u32], at: usize)
-    requires { Tellable n left r.now.file.now queue.now events.old at }
-    ensures { Told n left r.now.file.now queue.now events.old at events.new }
+// Writes the evictions: the files behind the queue, from the last of n entries down. It only reads `file`, and asks for no
+// more than that table lent shared: docs/PROMISES.md has it among the parts that crates share.
+pub fn tell(n: usize, left: usize, file: &[u16], queue: &[u16], events: &mut [u32], at: usize)
+    requires { Tellable n left file.now queue.now events.old at }
+    ensures { Told n left file.now queue.now events.old at events.new }
 {
     let mut e = at;
     for last in (left..n).rev() {
         let p = usize::from(queue[last]);
-        events[e] = event(u32::from(Kind::Evict), usize::from(r.file[p]));
+        events[e] = event(u32::from(Kind::Evict), usize::from(file[p]));
         e += 1;
     }
 }

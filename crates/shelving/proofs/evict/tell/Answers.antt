@@ -9,7 +9,7 @@ use Rattle.shelving.proofs.evict.tell.Goals as goal
 -- the file is the last entry's
 pub loop-last-preserved : goal.loop-last-preserved
 loop-last-preserved c =
-    let is_last : let x = c.args in c.from-in-loop-last.result ≡ get_or x.r.now.file.now (get_or x.queue.now (c.loop-last.last - 1) 0) 0 = c.from-in-loop-last.ensures ∙ ap (λ (k : ℕ). get_or c.args.r.now.file.now k 0) c.from-p.ensures in
+    let is_last : let x = c.args in c.from-in-loop-last.result ≡ get_or x.file.now (get_or x.queue.now (c.loop-last.last - 1) 0) 0 = c.from-in-loop-last.ensures ∙ ap (λ (k : ℕ). get_or c.args.file.now k 0) c.from-p.ensures in
     telling_more _ _ _ _ _ _ _ _ _ _ c.loop-last.invariant c.loop-last-test.true (c.event.ensures ∙ (λ i. event (c.from.ensures i) (is_last i)))
 
 pub returns : goal.returns
