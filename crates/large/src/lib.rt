@@ -1,7 +1,7 @@
 // A number past 64 bits, in two words: lifts of 2 to the 60th, and what is left below one lift.
 #![tactic(auto)]
 
-ghost use Rattle.std.specs.Prelude.{◌≡◌, ◌+◌, ◌*◌, ◌/◌, ◌<◌, ◌≤◌};
+ghost use Rattle.std.specs.Prelude.{◌≡◌, ◌+◌, ◌*◌, ◌/◌, ◌%◌, ◌<◌, ◌≤◌};
 ghost use Rattle.amounts.specs.Limits.{word, lift, requests_most};
 ghost use Rattle.amounts.specs.Worth.{worth_most};
 
@@ -64,6 +64,13 @@ impl Large {
         ensures { result ≡ self / lift }
     {
         self.high
+    }
+
+    // What is left of it beside them.
+    pub fn left(self) -> Key
+        ensures { result.0 ≡ self % lift }
+    {
+        Key(self.low)
     }
 }
 

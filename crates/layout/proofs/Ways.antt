@@ -47,11 +47,24 @@ own_held s part g p c = record { given = g; places = p; catalogue = c; events = 
 -- ---- settings, and the requests after them
 
 module _ (s : Settings) (part : List ℕ) where
+  pub places_beyond : own_places < s.places.0 → of_file (opened s part) ≡ refused_line 2
+  places_beyond h = rw (lt-leb s.places.0 own_places h)
+
+  pub catalogue_beyond : s.places.0 ≤ own_places → own_catalogue < s.catalogue.0 → of_file (opened s part) ≡ refused_line 2
+  catalogue_beyond h k = rw (le-leb s.places.0 own_places h, lt-leb s.catalogue.0 own_catalogue k)
+
   module _ (told : List ℕ) (h : OwnSized s part told) where
     within : of_file (opened s part) ≡ of_read s (read_of (length part) s.catalogue.0 part)
     within = rw (le-leb s.places.0 own_places h.places, le-leb s.catalogue.0 own_catalogue h.catalogue)
 
     module _ (r : Carried) (told' : List ℕ) (p : Ran s part told r told') where
+      pub ran_refused : (x : Refusal) → r.answer ≡ Err x → of_file (opened s part) ≡ refused_line (card_of x).number
+      ran_refused x e = within ∙ go (read_of (length part) s.catalogue.0 part) p.ran
+        where
+          go : (z : Read) → RanOn s told r told' z → of_read s z ≡ refused_line (card_of x).number
+          go (stop y) q = let k : y ≡ x = cc in ap (λ (w : Refusal). refused_line (card_of w).number) k
+          go (good qs) q = let z : ◌≡◌ {A = ℕ} 0 1 = cc q.0 in absurd (omega arith)
+
       -- the page of what a run that is done has left
       pub record Paged (count : ℕ) : Type 0 where
         pub many : count ≤ length told'

@@ -1,14 +1,15 @@
 -- Laws for whoever builds on the method: a run in parts, turns that make no difference, stamps, the length of the event list. Assumes nothing.
 use mathlib.Core.Path.{◌≡◌, refl, sym, ap}
-use mathlib.Core.Bool.{true}
+use mathlib.Core.Bool.{true, ◌||◌, or_assoc}
 use mathlib.Core.List.{List, [], ◌∷◌, ◌++◌, append_assoc}
 use Prim.Native.Nat.{ℕ, zero, suc, ◌+◌, ◌*◌, ◌≤◌}
 use native.Mathlib.Omega.{arith}
+use lib.Dec.{eqb}
 use borrow.Author.Tests.{eq-eqb}
 use lib.ListN.{length, get_or, set, length-append, length-map}
 use Rattle.amounts.specs.Requests.{Request, resolved, AllRanged}
 use Rattle.method.specs.Shelf.{Kept, Slot, none, kept, Shelf, files, Found, nothing, at}
-use Rattle.method.specs.Method.{Policy, Settings, Gone, Reply, Served, Wanted, next, also, clear, State, goes, step, run}
+use Rattle.method.specs.Method.{Policy, Settings, Gone, Reply, Served, Wanted, next, Cleared, also, clear, State, goes, step, run}
 use Rattle.method.specs.Events.{stale, entries, events}
 use Rattle.method.specs.Totals.{on_admitted, copies}
 use Rattle.method.specs.Promise.{SoundAt}
@@ -65,6 +66,15 @@ clear_fuel c e zero zero l s h k = refl
 clear_fuel c e zero (suc m) l s h k = sym (clear_stop c e m l s (next_empty c e s h))
 clear_fuel c e (suc n) zero l s h k = clear_stop c e n l s (next_empty c e s k)
 clear_fuel c e (suc n) (suc m) l s h k = clear_fuel_turn c e n m (λ l s. clear_fuel c e n m l s) l s h k (next c e s) refl
+
+-- ---- a loop's invariant: what is taken so far, then what is still to go
+
+abbrev pub first : List Gone → Cleared → Cleared
+first done x = record { inflation = x.inflation; shelf = x.shelf; taken = done ++ x.taken }
+
+pub goes_append : (f : ℕ) (a b : List Gone) → goes f (a ++ b) ≡ (goes f a || goes f b)
+goes_append f [] b = refl
+goes_append f (g ∷ a) b = rw (goes_append f a b) (sym (or_assoc (eqb f g.file) (goes f a) (goes f b)))
 
 -- ---- whether a file goes
 

@@ -1,11 +1,11 @@
 -- The tests of a record and of the sums, over plain numbers. Assumes nothing.
 use mathlib.Core.Path.{◌≡◌, sym, ◌∙◌}
 use mathlib.Core.Bool.{Bool}
-use Prim.Native.Nat.{ℕ, ◌+◌, ◌-◌, ◌*◌, ◌≤◌, ◌<◌}
+use Prim.Native.Nat.{ℕ, ◌+◌, ◌-◌, ◌*◌, ◌/◌, ◌≤◌, ◌<◌}
 use native.Mathlib.Omega.{arith}
 use lib.Dec.{leb}
 use borrow.Author.Tests.{leb-true, le-leb}
-use Rattle.amounts.specs.Limits.{lift}
+use Rattle.amounts.specs.Limits.{lift, requests_most}
 use Rattle.amounts.specs.Worth.{worth_most}
 use Rattle.method.specs.Shelf.{Kept, Shelf, sum, product}
 use Rattle.method.specs.Method.{Policy}
@@ -24,6 +24,10 @@ right_last f b c {d} {m} u v e =
     (λ w. le-leb d m (omega (arith, w.key_most)))
 
 -- ---- the sums
+
+-- the largest worths of all requests together are few lifts
+pub worths_few : (n : ℕ) {most : ℕ} → n ≤ requests_most → most ≡ n * worth_most → most / lift ≤ 4096
+worths_few n h o = omega (arith, h, o)
 
 module _ (a : Tally) (s : Shelf) {most : ℕ} (o : most ≡ a.requests * worth_most) where
   -- by the tests, the last of whole inflation and the products
