@@ -69,7 +69,9 @@ pub fn request_at(part: &[u8], at: usize) -> Taken
     }
 }
 
-// The writing pass, over requests that the checking pass found good.
+// The writing pass, over requests that the checking pass found good. It goes into no caller, so that its loop has the
+// registers to itself.
+#[inline(never)]
 pub(crate) fn fill(
     part: &[u8],
     catalogue: u64,

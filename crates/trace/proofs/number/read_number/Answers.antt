@@ -23,15 +23,15 @@ pub overflow_mul-scale : goal.overflow_mul-scale
 overflow_mul-scale c = omega (arith, scale_fits _ c.loop-group.invariant.fine 0)
 
 pub returns-then-group-gt0 : goal.returns-then-group-gt0
-returns-then-group-gt0 c = (refl, reading_zero _ _ _ _ _ c.loop-group.invariant c.loop-group-test.true (omega (arith, c.if-part-i.false)) c.if-b-eq0.true c.if-group-gt0.true)
+returns-then-group-gt0 c = (refl, reading_zero _ _ _ _ _ c.loop-group.invariant (omega (arith, c.loop-group-test.true)) (omega (arith, c.if-part-i.false)) c.if-b-eq0.true c.if-group-gt0.true)
 
 pub returns-then-b-lt128 : goal.returns-then-b-lt128
 returns-then-b-lt128 c =
-    reading_last _ _ _ _ _ c.loop-group.invariant c.loop-group-test.true (omega (arith, c.if-part-i.false)) c.if-b-lt128.true (λ e k.
+    reading_last _ _ _ _ _ c.loop-group.invariant (omega (arith, c.loop-group-test.true)) (omega (arith, c.if-part-i.false)) c.if-b-lt128.true (λ e k.
     elim c.else-b-eq0.branch [ else-b-eq0-via-then-b-eq0+else-group-gt0 w ↦ absurd (omega (arith, k, w.if-group-gt0.false)) | else-b-eq0-via-else-b-eq0 w ↦ absurd (w.if-b-eq0.false e) ])
 
 pub loop-group-preserved : goal.loop-group-preserved
-loop-group-preserved c = reading_more _ _ _ _ _ c.loop-group.invariant c.loop-group-test.true (omega (arith, c.if-part-i.false)) c.if-b-lt128.false
+loop-group-preserved c = reading_more _ _ _ _ _ c.loop-group.invariant (omega (arith, c.loop-group-test.true)) (omega (arith, c.if-part-i.false)) c.if-b-lt128.false
 
 pub returns : goal.returns
 returns c = (refl, reading_none _ _ _ _ _ c.loop-group.invariant (λ few. absurd (omega (arith, few, c.loop-group-test.false))))
