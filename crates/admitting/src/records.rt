@@ -1,5 +1,5 @@
 // Two steps of `shelving` that read one table, where a run lends all records as one value.
-// Within a function that goes on to write the records the check has no rule yet for one of them taken out to be read.
+// After a loan of one table out of them a proof can't name what the records hold, so each loan stands in a function of its own.
 ghost use Rattle.shelving.specs.Room.{Roomless, Roomed};
 ghost use Rattle.shelving.specs.Telling.{Tellable, Told};
 
