@@ -1,7 +1,7 @@
 -- The pass over the queue's entries: what holds after i turns. Assumes nothing.
 use mathlib.Core.Path.{◌≡◌, refl, sym, ap, ◌∙◌}
 use mathlib.Core.Logic.{inl, inr, ⊎_elim}
-use mathlib.Core.Bool.{false, true≢false}
+use mathlib.Core.Bool.{Bool, false, true≢false}
 use mathlib.Core.List.{List}
 use Prim.Native.Nat.{ℕ, ◌+◌, ◌≤◌, ◌<◌}
 use native.Mathlib.Omega.{arith}
@@ -64,3 +64,6 @@ module _ (s : Settings) (n : ℕ) (t : Tables) (entry₀ : List ℕ) where
           notes = λ p l. ⊎_elim (λ e. here p e) (λ ne. still p ne (g.notes p l)) (same p at);
           long = length-set entry at i ∙ g.long;
         }
+
+pub noted_from : {s : Settings} {n : ℕ} {t : Tables} {entry₀ entry entry' : List ℕ} {answer : Bool} → Noted s n t entry entry' answer → length entry ≡ length entry₀ → Noted s n t entry₀ entry' answer
+noted_from h e = record { yes = h.yes; no = h.no; long = h.long ∙ e }

@@ -1,4 +1,5 @@
 -- The laws behind the passes of the judge.
+pub mod Parts
 pub mod Entering
 pub mod Stacking
 pub mod Stamping

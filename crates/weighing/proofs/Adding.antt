@@ -1,16 +1,18 @@
 -- Sums over the shelf, read by the places of its files: one file more, the lists that a sum does not look at, and bounds. Assumes nothing.
 use mathlib.Core.Path.{◌≡◌, refl, sym, ap, ◌∙◌}
 use mathlib.Core.Logic.{◌⊎◌, ⊎_elim}
+use mathlib.Core.Bool.{Bool, true, false}
 use mathlib.Core.List.{List, [], ◌∷◌, ◌++◌, map}
 use Prim.Native.Nat.{ℕ, suc, ◌+◌, ◌*◌, ◌/◌, ◌≤◌, ◌<◌}
 use native.Mathlib.Numerals.{add-one}
 use native.Mathlib.Omega.{arith}
 use native.Mathlib.Nat.{suc-mul}
+use lib.Dec.{eqb}
 use lib.ListN.{length, get_or, take}
 use lib.Seq.{take-suc}
-use Rattle.amounts.specs.Limits.{lift, no_place}
+use Rattle.amounts.specs.Limits.{pick, lift, no_place}
 use Rattle.amounts.proofs.Values.{product_lift}
-use Rattle.method.specs.Shelf.{Kept, Slot, Shelf, weigh, sum, product}
+use Rattle.method.specs.Shelf.{Kept, Slot, none, kept, Shelf, weigh, sum, product}
 use Rattle.tables.specs.Tables.{Tables, record_at, slot_of, shelf_of}
 use Rattle.tables.proofs.Shelves.{slot_none, slot_kept}
 use Rattle.weighing.specs.Weighing.{Weighable}
@@ -55,6 +57,26 @@ module _ (f : Kept → ℕ) (t : Tables) where
 
     pub sum_some : {v w : ℕ} → v ≡ sum f (shelf_of n t) → (get_or t.place n 0 ≡ no_place → ⊥) → w ≡ v + f (record_at t (get_or t.place n 0)) → w ≡ sum f (shelf_of (n + 1) t)
     sum_some a ne b = rw add-one (omega (arith, more_some ne))
+
+-- ---- a sum looks at the lists that its f reads, and at no other
+
+module _ (f g : Kept → ℕ) (t u : Tables) (like : (p : ℕ) → f (record_at t p) ≡ g (record_at u p)) where
+  weigh_same : (p : ℕ) → weigh f (slot_of t p) ≡ weigh g (slot_of u p)
+  unfolding slot_of
+  weigh_same p = go (eqb p no_place)
+    where
+      go : (b : Bool) → weigh f (pick b none (kept (record_at t p))) ≡ weigh g (pick b none (kept (record_at u p)))
+      go true = refl
+      go false = like p
+
+  sum_map : (l : List ℕ) → sum f (map (slot_of t) l) ≡ sum g (map (slot_of u) l)
+  unfolding sum
+  sum_map [] = refl
+  sum_map (p ∷ l) = omega (arith, weigh_same p, sum_map l)
+
+  pub sum_same : (n : ℕ) → t.place ≡ u.place → sum f (shelf_of n t) ≡ sum g (shelf_of n u)
+  unfolding shelf_of
+  sum_same n e = sum_map (take n t.place) ∙ ap (λ (l : List ℕ). sum g (map (slot_of u) (take n l))) e
 
 -- ---- a sum file by file, each adding at most so much
 
